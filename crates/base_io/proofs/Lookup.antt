@@ -1,4 +1,4 @@
--- The index of a pair with a given name, and the lookup in the map of names and bytes.
+-- The index of a pair with a given name, and the lookup of a name among the files.
 use Rattle.std.proofs.Common.{◌≡◌, ◌≢◌, inl, inr, ℕ, ◌<◌, ◌+◌, ◌≤◌, not, Bool, true, false, cond, ltb, List, [], ◌∷◌, map, length, get_or, Some, None, String, Vec, string_bytes, bytes_eq, position, option_map, refl, sym, ap, ◌∙◌, arith}
 use Rattle.std.specs.declared.alloc.Global.{Global}
 use Rattle.std.specs.List.{position_or_len, slice_get}
@@ -17,7 +17,6 @@ position_or_len-map : {X Y : Type 0} (f : X → Y) (p : Y → Bool) (xs : List X
 position_or_len-map f p [] = refl
 position_or_len-map f p (x ∷ xs) = ap (λ n. cond (not (p (f x))) (1 + n) 0) (position_or_len-map f p xs)
 
--- The pair has this name.
 abbrev pub is_named : List ℕ → String Global × Vec ℕ Global → Bool
 is_named name pair = bytes_eq (string_bytes pair.0) name
 

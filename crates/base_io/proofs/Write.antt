@@ -10,7 +10,8 @@ abbrev pub HasWritten : ByteState → ByteState → List ℕ → ℕ → Type 0
 HasWritten start now chunk n = (n ≤ length chunk) × Writes (change start now) (take n chunk)
 
 module _ (start now next : ByteState) (chunk : List ℕ) (n : ℕ) (before : HasWritten start now chunk n) where
-  -- One more call that succeeds.
+  -- If the first `n` bytes were written and one more call writes `m` bytes, then the first `n + m`
+  -- bytes were written.
   pub write_more : {E : Type 0} (m : ℕ) → AppendsPrefix {E = E} now next (Ok m) (drop n chunk) → HasWritten start next chunk (n + m)
   write_more m call =
       let fits : m ≤ length (drop n chunk) = call.within in

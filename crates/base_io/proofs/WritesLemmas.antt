@@ -41,6 +41,6 @@ writes_part a b c p q first second = record {
   cause = subst (λ n. HasCause n c.faults true) first.cause.kept second.cause;
 }
 
--- If a proper prefix of a text was written, then it is a proper prefix of each longer text.
+-- If a proper prefix of a text was written, then a proper prefix of each longer text was written.
 pub part_more : (a c : ByteState) (p q : List ℕ) → WritesPart (change a c) p → WritesPart (change a c) (p ++ q)
 part_more a c p q part = record { appended = part_longer a.bytes c.bytes p q part.appended; known = part.known; cause = part.cause }

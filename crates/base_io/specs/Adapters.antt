@@ -17,6 +17,6 @@ writer_of sink = sink.writer
 abbrev pub write_faults_of : {W : Type 0} → StdSink W → ℕ
 write_faults_of sink = sink.faults
 
--- Only the count: the bytes are not known.
+-- The state of an adapter: only the number of failed calls is known, and the bytes are not known.
 abbrev pub inconclusive : ℕ → ByteState
 inconclusive faults = record { bytes = None; faults = faults }

@@ -1,5 +1,6 @@
--- The known state of the file system: whether a file is open, its remaining bytes if they are
--- known, the counts of faults, and the name of the last failed fetch.
+-- The known state of the file system. The state contains whether a file is open and, if known, the
+-- remaining bytes of the open file. It also contains the counts of faults, and the name of the last
+-- failed fetch.
 use Rattle.std.specs.Prelude.{ℕ, Bool, List, Option}
 
 pub record DiskValue : Type 0 where

@@ -7,18 +7,18 @@ use Rattle.base_io.specs.Faults.{last_count, count_after}
 use Rattle.base_io.specs.Files.{File}
 use Rattle.base_io.specs.State.{ByteState, FilesState}
 
--- The calls of one kind: the numbers of the calls that fail, the number of the next call, and the
--- number of failed calls.
+-- The plan for one kind of call: the numbers of the calls that fail, the number of the next call,
+-- and the number of failed calls.
 pub record Plan : Type 0 where
   pub failing : List ℕ
   pub calls : ℕ
   pub faults : ℕ
 
--- The next call fails.
+-- The plan requires that the next call fails.
 abbrev pub FailsNext : Plan → Type 0
 FailsNext plan = Contains plan.failing plan.calls
 
--- The plan after one more call, which failed or not.
+-- The plan after one more call. `failed` states whether the call failed.
 abbrev pub after_call : Plan → Bool → Plan
 after_call plan failed = record {
   failing = plan.failing;
@@ -26,24 +26,25 @@ after_call plan failed = record {
   faults = count_after plan.faults failed;
 }
 
--- A plan before the first call.
+-- A plan for which no call was counted yet.
 abbrev pub plan_of : List ℕ → Plan
 plan_of failing = record { failing = failing; calls = 0; faults = 0 }
 
--- A source in memory: the remaining bytes, and the maximum number of bytes that a call returns.
+-- A source in memory: the remaining bytes, the maximum number of bytes that a call returns, and the
+-- plan of the calls.
 pub record SourceValue : Type 0 where
   pub left : List ℕ
   pub chunk : ℕ
   pub takes : Plan
 
--- A sink in memory: the bytes written, and its capacity in bytes.
+-- A sink in memory: the bytes written, the capacity in bytes, and the plan of the calls.
 pub record SinkValue : Type 0 where
   pub written : List ℕ
   pub room : ℕ
   pub writes : Plan
 
--- Files in memory: the map, the remaining bytes of the file fetched last, and the name of the last
--- failed fetch.
+-- Files in memory: the names and bytes of the files, the remaining bytes of the file fetched last,
+-- and the name of the last failed fetch.
 pub record FilesValue : Type 0 where
   pub files : List File
   pub left : List ℕ
@@ -51,7 +52,7 @@ pub record FilesValue : Type 0 where
   pub reads : Plan
   pub last_open_fault : Option (List ℕ)
 
--- ---- as a source, a sink and files
+-- ---- the states of the fakes as a source, a sink and files
 
 abbrev pub source_state : SourceValue → ByteState
 source_state source = record { bytes = Some source.left; faults = source.takes.faults }
@@ -68,19 +69,20 @@ files_state files = record {
   read_faults = files.reads.faults;
 }
 
--- ---- the files of the pairs
+-- ---- the files of `MemFiles`
 
--- The names and bytes of the pairs.
+-- The files of `MemFiles`, as a list of pairs of a name and the bytes of the file.
 abbrev pub files_of : List (String Global × Vec ℕ Global) → List File
 files_of pairs = map (λ pair. (string_bytes pair.0, pair.1.items)) pairs
 
--- The bytes of the file at an index, from `offset` to the end. The result is empty if there is no
--- file.
+-- The bytes from `offset` to the end of the file at `index`. If there is no such file, the list is
+-- empty.
 abbrev pub left_at : List File → Option ℕ → ℕ → List ℕ
 left_at files None offset = []
 left_at files (Some index) offset = drop offset (slice_index_or files index ([], [])).1
 
--- The index is that of a file, and the offset is within its bytes.
+-- If `index` is given, then `index` is the index of a file, and `offset` is at most the length of
+-- the file.
 abbrev pub IsWithin : List File → Option ℕ → ℕ → Type 0
 IsWithin files index offset =
     IfSome index (λ k. (k < length files) × (offset ≤ length (slice_index_or files k ([], [])).1))

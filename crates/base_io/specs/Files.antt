@@ -4,19 +4,19 @@ use Rattle.std.specs.Prelude.{Option, IsSome, option_map, Result, Ok, Err}
 use Rattle.base_io.specs.declared.files.OpenError.{OpenError}
 use Rattle.base_io.specs.declared.files.OpenError.TheVariants.{Failed, Missing, Memory}
 
--- A file: its name and its bytes.
+-- A file is a pair of a name and the bytes of the file.
 abbrev pub File : Type 0
 File = List ℕ × List ℕ
 
--- The bytes of the file with this name.
+-- The bytes of the first file with this name, or `None` if no file has this name.
 abbrev pub contents_of : List File → List ℕ → Option (List ℕ)
 contents_of files name = option_map (λ file. file.1) (find (λ file. bytes_eq file.0 name) files)
 
--- No name occurs twice.
+-- No two files have the same name.
 abbrev pub HasNoNameTwice : List File → Type 0
 HasNoNameTwice files = AllPairs (λ file other. file.0 ≢ other.0) files
 
--- The map contains the name, and all bytes of the file remain to be read.
+-- A file has the name, and all bytes of the file remain to be read.
 pub record Opens (files : List File) (name : List ℕ) (left : Option (List ℕ)) : Type 0 where
   pub found : IsSome (contents_of files name)
   pub whole : left ≡ contents_of files name

@@ -1,4 +1,4 @@
--- The effect of `take` on the remaining bytes, if these are known.
+-- The effect of `take` on the remaining bytes, if the remaining bytes are known.
 use Rattle.std.specs.Prelude.{◌≡◌, ◌↔◌, ℕ, ◌<◌, ◌≤◌, List, [], length, take, drop, Option, Some}
 use Rattle.std.specs.Prelude.{is_some, is_err, Result, IfOk, OnErr, IfSome}
 use Rattle.base_io.specs.Faults.{HasCause}
@@ -12,9 +12,9 @@ pub record Moves (bytes : List ℕ) (n : ℕ) (buffer : List ℕ) (after : Optio
   pub rest : after ≡ Some (drop n bytes)
   pub ends : 0 < length buffer → (n ≡ 0 ↔ bytes ≡ [])
 
--- A call returns a number `n` that is at most the length of the buffer. If the bytes are known, the
--- next `n` bytes were moved. A failed call moves nothing. The count of faults shows whether the
--- call failed.
+-- A successful call returns a number `n` that is at most the length of the buffer. If the bytes of
+-- the source are known, the call moved the next `n` bytes. A failed call moves nothing. If the call
+-- failed, then the count of faults increased or is at its maximum.
 pub record TakesPrefix {E : Type 0} (before after : ByteState) (result : Result ℕ E)
     (buffer : List ℕ) : Type 0 where
   pub within : IfOk result (λ n. n ≤ length buffer)

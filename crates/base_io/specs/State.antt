@@ -1,16 +1,17 @@
--- The state of the environment, as far as it is known.
+-- The known part of the state of the environment.
 use Rattle.std.specs.Prelude.{ℕ, List, Option}
 use Rattle.base_io.specs.Files.{File}
 
--- For a source the remaining bytes, for a sink the bytes written, if they are known; and the number
--- of failed calls.
+-- The state of a source or a sink. For a source, `bytes` are the remaining bytes. For a sink,
+-- `bytes` are the bytes written. If the bytes are not known, `bytes` is `None`. `faults` is the
+-- number of failed calls.
 pub record ByteState : Type 0 where
   pub bytes : Option (List ℕ)
   pub faults : ℕ
 
--- For files: the map from names to bytes and the remaining bytes of the file fetched last, if they
--- are known; the number of failed fetches, the name of the last failed fetch, and the number of
--- failed takes.
+-- The state of an `Opener`. If the files are known, `map` contains the name and bytes of each file,
+-- and `left` is what remains of the file fetched last. The other fields are the number of failed
+-- fetches, the name of the last failed fetch, and the number of failed takes.
 pub record FilesState : Type 0 where
   pub map : Option (List File)
   pub left : Option (List ℕ)
@@ -18,11 +19,11 @@ pub record FilesState : Type 0 where
   pub last_open_fault : Option (List ℕ)
   pub read_faults : ℕ
 
--- The file fetched last, as a source.
+-- The file fetched last, seen as the state of a source.
 abbrev pub as_source : FilesState → ByteState
 as_source files = record { bytes = files.left; faults = files.read_faults }
 
--- The states before and after a call.
+-- The state before a call and the state after the call.
 pub record Change (X : Type 0) : Type 0 where
   pub before : X
   pub after : X

@@ -12,8 +12,8 @@ use base_data::model::Memory;
 use std::alloc::AllocError;
 use thiserror::Error;
 
-/// The reason why a file was not opened. `Missing` means that there is no such file, `Failed` that
-/// it cannot be opened.
+/// The reason why a file was not opened. `Missing` means that no file has the name, and `Failed`
+/// that the file cannot be opened.
 #[derive(Clone, Copy, Debug, PartialEq, Eq, Error)]
 pub enum OpenError {
     #[error("the file cannot be opened")]
@@ -46,13 +46,14 @@ impl From<AllocError> for OpenError {
     }
 }
 
-/// Access to files by name. `fetch` opens one file at a time; then `take` reads its bytes.
+/// Access to files by name. `fetch` opens a file, and `take` reads the bytes of the file that was
+/// fetched last.
 pub trait Opener {
     ghost use Rattle.base_io.specs.Files.{contents_of, Opens, has_failed};
 
-    /// The map from names to bytes and the remaining bytes of the file fetched last, if they are
-    /// known; the number of failed fetches, the name of the last failed fetch, and the number of
-    /// failed takes.
+    /// The state of the files. If the files are known, the state contains the map from names to
+    /// bytes and the remaining bytes of the file fetched last. The state also contains the number
+    /// of failed fetches, the name of the last failed fetch, and the number of failed takes.
     ghost state: { Self → FilesState };
 
     /// Reads the next bytes of the file fetched last, as `Source::take` does.
@@ -64,8 +65,8 @@ pub trait Opener {
           read_faults = (state self.new).read_faults;
         } };
 
-    /// Opens the file with this name, so that `take` reads its bytes. If `fetch` returns an error,
-    /// then no bytes remain.
+    /// Opens the file with this name for later calls of `take`. If `fetch` returns an error, no
+    /// bytes remain to be read.
     fn fetch(&mut self, name: &str) -> Result<(), OpenError>
         ensures opened { OnOk result
             (IfSome (state self.old).map (λ all. Opens all name.now (state self.new).left)) }

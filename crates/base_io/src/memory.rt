@@ -1,5 +1,5 @@
-//! Fakes in memory. Their bytes are known, and they fail at the calls that were chosen when they
-//! were created.
+//! Fakes in memory: a source, a sink and files. The bytes of a fake are known. A fake fails at the
+//! calls that were chosen when the fake was created.
 
 ghost use Rattle.std.specs.Prelude.{◌≡◌, ◌⊎◌, ◌↔◌, ◌<◌, ◌≤◌, min, [], length, take, None, Some};
 ghost use Rattle.std.specs.Prelude.{is_err, IsErr, IsErrOf, IsTrue, OnOk, OnErr, IfOk};
@@ -20,8 +20,8 @@ use base_data::model::Memory;
 use std::alloc::Global;
 use std::marker::Model;
 
-// Copies bytes to the start of a buffer, as many as both can hold, and returns the number of copied
-// bytes.
+// Copies bytes to the start of a buffer until `from` ends or the buffer is full. Returns the number
+// of copied bytes.
 fn copy_prefix(from: &[u8], to: &mut [u8]) -> usize
     ensures amount { result ≡ min (length from.now) (length to.new) }
     ensures prefix { take result to.new ≡ take result from.now }
@@ -31,14 +31,14 @@ fn copy_prefix(from: &[u8], to: &mut [u8]) -> usize
     n
 }
 
-// Lemma function: the elements of a slice of bytes are bytes.
+// Lemma function: every element of a byte slice is less than 256.
 fn are_bytes(bytes: &[u8])
     ensures { AreBytes bytes.now }
 {
     let _all = bytes;
 }
 
-/// A source in memory.
+/// A source in memory with known bytes and chosen calls that fail.
 #[derive(Drop)]
 pub struct MemSource {
     bytes: Vec<u8>,
@@ -90,7 +90,8 @@ impl Source for MemSource {
     fn take(&mut self, buf: &mut [u8]) -> Result<usize, Failed>
         ensures takes { TakesPrefix (source_state self.old) (source_state self.new) result buf.new }
 
-        // Which calls fail, and how many bytes the other calls return.
+        // The plan `takes` decides which calls fail. A successful call returns as many bytes as
+        // `chunk`, the remaining bytes and the buffer allow.
         ensures fails { IsErr result ↔ FailsNext self.old.takes }
         ensures amount { IfOk result
             (λ n. n ≡ min (min self.old.chunk (length self.old.left)) (length buf.new)) }
@@ -135,8 +136,8 @@ impl Model for MemSink {
 }
 
 impl MemSink {
-    /// Creates a sink for at most `room` bytes, and allocates that memory at once. A call on a full
-    /// sink fails. The calls with the numbers in `failing`, counted from 0, fail too.
+    /// Creates a sink for at most `room` bytes, and allocates the memory for `room` bytes at once.
+    /// Calls on a full sink and the calls with the numbers in `failing`, counted from 0, fail.
     pub fn new(alloc: Global, room: usize, failing: Vec<u64>) -> Result<MemSink, Memory>
         ensures { IfOk result
             (λ sink. sink ≡ record { written = []; room = room; writes = plan_of failing.items }) }
@@ -148,7 +149,7 @@ impl MemSink {
         })
     }
 
-    /// Returns the bytes that were written.
+    /// Returns all bytes that were written to the sink.
     pub fn written(&self) -> &[u8]
         ensures { result.now ≡ self.now.written }
     {
@@ -173,7 +174,8 @@ impl Sink for MemSink {
         ensures appends { AppendsPrefix (sink_state self.old) (sink_state self.new) result
             chunk.now }
 
-        // Which calls fail, and how many bytes the other calls accept.
+        // A call fails if the plan `writes` requires a failure or if the sink is full. A successful
+        // call accepts as many bytes as the remaining room allows.
         ensures fails { IsErr result
             ↔ (FailsNext self.old.writes ⊎ (length self.old.written ≡ self.old.room)) }
         ensures amount { IfOk result
@@ -222,7 +224,7 @@ impl Model for MemFiles {
     ghost invariant = { λ f. IsWithin (files_of f.pairs.items) f.fetched f.at };
 }
 
-// Returns the index of the first pair with this name.
+// Returns the index of the first pair of a name and bytes with this name.
 fn index_of(pairs: &[(String, Vec<u8>)], name: &str) -> Option<usize>
     ensures { result ≡ position (λ pair. bytes_eq (string_bytes pair.0) name.now) pairs.now }
 {
@@ -238,8 +240,8 @@ fn bytes_at(pairs: &[(String, Vec<u8>)], index: usize) -> &[u8]
 }
 
 impl MemFiles {
-    /// Creates files with distinct names. The fetches with the numbers in `failing` and the takes
-    /// with the numbers in `reads`, each counted from 0, fail.
+    /// Creates files with distinct names. The numbers in `failing` are the fetches that fail, and
+    /// the numbers in `reads` are the takes that fail, each counted from 0.
     pub fn new(
         alloc: Global,
         pairs: Vec<(String, Vec<u8>)>,
@@ -266,7 +268,7 @@ impl MemFiles {
         }
     }
 
-    /// Returns true if no name occurs twice, as `new` requires.
+    /// Returns true if no two pairs have the same name, which `new` requires.
     pub fn have_no_name_twice(pairs: &[(String, Vec<u8>)]) -> bool
         ensures { IsTrue result ↔ HasNoNameTwice (files_of pairs.now) }
     {
@@ -315,7 +317,8 @@ impl Opener for MemFiles {
         ensures frame { self.new
             ≡ record self.old { left = self.new.left; reads = self.new.reads } }
 
-        // Which calls fail, and how many bytes the other calls return.
+        // The plan `reads` decides which takes fail. A successful take returns as many bytes as the
+        // remaining bytes and the buffer allow.
         ensures fails { IsErr result ↔ FailsNext self.old.reads }
         ensures amount { IfOk result (λ n. n ≡ min (length self.old.left) (length buf.new)) }
         ensures counted { self.new.reads ≡ after_call self.old.reads (is_err result) }
@@ -349,7 +352,7 @@ impl Opener for MemFiles {
           last_open_fault = self.new.last_open_fault;
         } }
 
-        // Which calls fail, unless memory runs out first.
+        // The plan `fetches` decides which fetches fail, unless memory runs out first.
         ensures fails { FailsNext self.old.fetches →
             IsErrOf result OpenError.Failed ⊎ IsErrOf result OpenError.Memory }
         ensures planned { IsErrOf result OpenError.Failed → FailsNext self.old.fetches }

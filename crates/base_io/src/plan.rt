@@ -1,4 +1,4 @@
-//! The choice of the calls of a fake that fail.
+//! The plan of a fake: which calls fail.
 
 ghost use Rattle.std.specs.Prelude.{◌≡◌, ◌↔◌, IsTrue};
 ghost use Rattle.base_io.specs.Faults.{HasCause};
@@ -24,7 +24,7 @@ impl Model for Plan {
 }
 
 impl Plan {
-    /// Creates a plan before the first call.
+    /// Creates a plan for which no call was counted yet.
     pub fn new(failing: Vec<u64>) -> Plan
         ensures { result ≡ plan_of failing.items }
     {
@@ -42,7 +42,8 @@ impl Plan {
         self.failing.contains(&self.calls)
     }
 
-    /// Counts a call and, if it failed, a fault. A count that has reached its maximum stays there.
+    /// Adds 1 to the number of calls and, if the call failed, to the number of faults. A number
+    /// that has reached its maximum does not change.
     pub fn count_call(&mut self, failed: bool)
         ensures counted { self.new ≡ after_call self.old failed }
         ensures cause { HasCause self.old.faults self.new.faults failed }

@@ -1,5 +1,5 @@
-//! Readers, writers and the file system. Each counts its faults. As a source or a sink its bytes
-//! are not known.
+//! Adapters for readers, writers and the file system. Each adapter counts its failed calls. The
+//! contracts of an adapter do not know the bytes.
 
 ghost use Rattle.std.specs.Prelude.{◌≡◌, None, Some, option_copied, is_ok, is_err, IsErrOf, false};
 ghost use Rattle.std.specs.Bool.{OnTrue, OnFalse};
@@ -16,7 +16,7 @@ use std::io::{Read, Write};
 use std::marker::Model;
 use std::rt::Files;
 
-/// A source that reads from a reader.
+/// A source that reads from a reader and counts the failed calls.
 #[derive(Drop)]
 pub struct StdSource<R> {
     reader: R,
@@ -68,7 +68,7 @@ impl<R: Read> Source for StdSource<R> {
     fn reports_bytes(&self) {}
 }
 
-/// A sink that writes to a writer.
+/// A sink that writes to a writer and counts the failed calls.
 #[derive(Drop)]
 pub struct StdSink<W> {
     writer: W,
@@ -120,7 +120,7 @@ impl<W: Write> Sink for StdSink<W> {
     }
 }
 
-/// The file system.
+/// Access to the files of the file system. The adapter counts the failed calls.
 #[derive(Drop)]
 pub struct DiskFiles<R: Files> {
     alloc: Global,

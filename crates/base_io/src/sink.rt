@@ -1,4 +1,4 @@
-//! Sinks: where bytes are written.
+//! Sinks: destinations to which bytes are written.
 
 ghost use Rattle.std.specs.Prelude.{◌≡◌, [], IsOk, MatchResult};
 ghost use Rattle.base_io.specs.Sink.{AppendsPrefix, Writes, WritesPart};
@@ -43,17 +43,18 @@ impl From<AllocError> for WriteError {
     }
 }
 
-/// A sink of bytes.
+/// A destination to which bytes are written.
 pub trait Sink {
-    /// The bytes written, if they are known, and the number of failed calls.
+    /// The bytes that were written to the sink, if they are known, and the number of failed calls.
     ghost state: { Self → ByteState };
 
-    /// Appends the first bytes of `chunk` and returns their number.
+    /// Appends a prefix of `chunk` to the sink and returns the length of the prefix in bytes.
     fn write(&mut self, chunk: &[u8]) -> Result<usize, Failed>
         ensures { AppendsPrefix (state self.old) (state self.new) result chunk.now };
 }
 
-/// Writes all bytes, with as many calls as necessary. If there are no bytes, makes no call.
+/// Writes all bytes, with as many calls of `write` as necessary. If there are no bytes, makes no
+/// call.
 #[inline(always)]
 pub fn write_all<K: Sink>(sink: &mut K, bytes: &[u8]) -> Result<(), Failed>
     ensures writes { MatchResult result

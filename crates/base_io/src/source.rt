@@ -5,21 +5,23 @@ ghost use Rattle.base_data.specs.model.Bytes.{AreBytes};
 ghost use Rattle.base_io.specs.Source.{TakesPrefix};
 ghost use Rattle.base_io.specs.State.{ByteState};
 
-/// A call to the environment failed. The count of its faults shows that too.
+/// A call to the environment failed. Each failed call increases the number of failed calls in the
+/// state, up to its maximum.
 #[derive(Clone, Copy, Debug, PartialEq, Eq)]
 pub struct Failed;
 
-/// A source of bytes.
+/// A source from which bytes are read.
 pub trait Source {
     /// The remaining bytes, if they are known, and the number of failed calls.
     ghost state: { Self → ByteState };
 
-    /// Moves the next bytes to the start of the buffer and returns their number. The rest of the
-    /// buffer is unspecified.
+    /// Moves the next bytes to the start of the buffer and returns the number of moved bytes. The
+    /// contents of the buffer after the moved bytes are unspecified.
     fn take(&mut self, buf: &mut [u8]) -> Result<usize, Failed>
         ensures { TakesPrefix (state self.old) (state self.new) result buf.new };
 
-    /// Lemma method: the bytes that are known are bytes.
+    /// Lemma method: if the remaining bytes are known, each of the remaining bytes is less than
+    /// 256.
     fn reports_bytes(&self)
         ensures { IfSome (state self.now).bytes AreBytes };
 }

@@ -27,19 +27,19 @@ begins = record {
   begins = inl refl;
 }
 
--- A fault relative to the initial state is a fault of the bytes.
+-- A fault after the initial state is a fault of the bytes.
 pub fault_from_nothing : (bytes : List ℕ) (fault : CertFault) → IsFaultFrom nothing bytes fault → IsFaultOf bytes fault
 fault_from_nothing bytes (faults.Syntax n) at =
     subst (λ (b : List ℕ). IsSyntaxAt b n) (append-nil bytes)
     (subst (λ (k : ℕ). IsSyntaxAt (bytes ++ []) k) (zero-add n) (at []))
 fault_from_nothing bytes faults.Memory at = tt
 
--- A chunk in which no line ends.
+-- If the part after the first line feed is empty, then no line ends in the chunk.
 pub cut_lacks : (chunk prefix rest : List ℕ) → IsCut chunk 10 prefix rest → rest ≡ [] → ¬ Contains chunk 10
 cut_lacks chunk prefix rest cut none =
     subst (λ (z : List ℕ). ¬ Contains z 10) (sym (cut.whole ∙ (ap (λ (z : List ℕ). prefix ++ z) none ∙ append-nil prefix))) cut.none
 
--- If no more bytes follow, then the stored fault is the fault of the bytes.
+-- If a fault is stored, then the stored fault is the fault of the bytes.
 pub fault_known : (reading : CertificateReading) (lines : ℕ) (kept bytes : List ℕ) (fault : Option ℕ) (n : ℕ) → fault ≡ Some n
     → HasComeTo reading lines kept fault bytes → IsSyntaxAt bytes n
 fault_known reading lines kept bytes fault n is at = subst (λ (b : List ℕ). IsSyntaxAt b n) (append-nil bytes) (known []) where
@@ -47,7 +47,7 @@ fault_known reading lines kept bytes fault n is at = subst (λ (b : List ℕ). I
   known = subst (λ (o : Option ℕ). HasComeTo reading lines kept o bytes) is at
 
 module _ (reading : CertificateReading) (lines : ℕ) (kept bytes chunk : List ℕ) where
-  -- If the line is not complete yet, then the chunk is kept.
+  -- If no line ends in the chunk, then the chunk is appended to the kept bytes.
   pub kept_more : ¬ Contains chunk 10 → HasComeTo reading lines kept None bytes
       → HasComeTo reading lines (kept ++ chunk) None (bytes ++ chunk)
   kept_more lacks at = record {
@@ -79,14 +79,14 @@ module _ (reading : CertificateReading) (lines : ℕ) (kept bytes : List ℕ) (h
       subst (λ (b : List ℕ). IsAt b next (lines + many) line []) (sym has.encoded)
       (subst (λ (k : ℕ). IsAt (text_of (lines_read reading) ++ kept) next (k + many) line []) (sym has.counted) at)
 
-  -- If one of the lines is faulty, then the invariant holds with that fault.
+  -- If one of the kept lines is faulty, then the invariant holds with the fault of that line.
   pub came_fault : (n : ℕ) → IsFaultFrom reading kept (faults.Syntax n) → (next : CertificateReading) (left : ℕ) (line : List ℕ)
       → HasComeTo next left line (Some (lines + n)) bytes
   came_fault n at next left line = λ later.
       subst (λ (b : List ℕ). IsSyntaxAt (b ++ later) (lines + n)) (sym has.encoded)
       (subst (λ (k : ℕ). IsSyntaxAt ((text_of (lines_read reading) ++ kept) ++ later) (k + n)) (sym has.counted) (at later))
 
-  -- The faulty line is within the bytes, or is the line after them.
+  -- The number of the faulty line is at most the number of bytes plus one.
   pub fault_few : (from : CertificateReading) (text : List ℕ) (n : ℕ) → from ≡ reading → text ≡ kept → IsFaultFrom from text (faults.Syntax n)
       → lines + n ≤ length bytes + 1
   fault_few from text n same-reading same-text at = few_of (came_fault n own reading lines kept []) where

@@ -24,7 +24,8 @@ neither : (x y : Bool) → cond x true y ≡ false → (x ≡ false) × (y ≡ f
 neither true y is = absurd (false≢true (sym is))
 neither false y is = (refl, is)
 
--- Proof by computation, for literal bytes.
+-- If the test `has` finds no occurrence of a byte, then the byte does not occur. The test is
+-- computed for literal bytes.
 pub lacks_by_test : (c : ℕ) (bs : List ℕ) → has c bs ≡ false → ¬ Contains bs c
 unfolding has
 lacks_by_test c [] test among = Contains-none c among
@@ -88,7 +89,7 @@ is_cut bytes at position within before found = record {
       inr (drop (position + 1) bytes, drop_more bytes position 0 less ∙ ap (λ (b : ℕ). b ∷ drop (position + 1) bytes) (found less))
   begins (inr more) = inl (drop_all position bytes more)
 
--- The same split, with the second part as a slice.
+-- The split at the first occurrence of a byte, with the second part as a slice.
 pub is_cut_slice :
     (bytes : List ℕ) (at position : ℕ) → position ≤ length bytes → ((k : ℕ) → k < position → get_or bytes k 0 ≡ at → ⊥)
     → (position < length bytes → get_or bytes position 0 ≡ at) → IsCut bytes at (take position bytes) (take (length bytes - position) (drop position bytes))

@@ -16,11 +16,11 @@ Lines = List (List ℕ)
 
 -- ---- lines of bytes
 
--- The first line, its line feed, and the rest.
+-- A text with a first line is that line, its line feed, and the remaining bytes.
 line_first : (line : List ℕ) (others rest : List ℕ) → ((line ++ 10 ∷ []) ++ others) ++ rest ≡ line ++ (10 ∷ (others ++ rest))
 line_first line others rest = append_assoc (line ++ 10 ∷ []) others rest ∙ append_assoc line (10 ∷ []) (others ++ rest)
 
--- If there is another line, then the text contains a line feed.
+-- If there is a complete line, then the text contains a line feed.
 feed_among : (line : List ℕ) (others : Lines) (rest : List ℕ) → Contains (text_of (line ∷ others) ++ rest) 10
 feed_among line others rest =
     Contains-append_left (text_of (line ∷ others)) rest 10 (Contains-append_left (line ++ 10 ∷ []) (text_of others) 10 (Contains-push line 10))
@@ -51,7 +51,7 @@ record HasLines (bytes : List ℕ) : Type 0 where
   rest : List ℕ
   are : AreLinesOf bytes lines rest
 
--- Prepending one byte.
+-- If bytes have lines, then the bytes with one byte before them have lines.
 one_more : (b : ℕ) (bytes : List ℕ) → HasLines bytes → HasLines (b ∷ bytes)
 one_more b bytes has = by_feed (same_or_not b 10) where
   longer : (lines : Lines) (rest : List ℕ) → AreLinesOf bytes lines rest → (b ≡ 10 → ⊥) → HasLines (b ∷ bytes)
@@ -104,11 +104,13 @@ prefix_no_feed lines (all, more, stated, is) line among =
     lines_no_feed 0 all stated.stated (omega (arith, few)) line
     (subst (λ (l : Lines). Contains l line) (sym is) (Contains-append_left lines more line among))
 
--- If some certificate begins with these lines, then it begins with a prefix of them.
+-- If some certificate begins with these lines, then some certificate begins with a prefix of the
+-- lines.
 prefix_of_prefix : (lines others : Lines) → ArePrefix (lines ++ others) → ArePrefix lines
 prefix_of_prefix lines others (all, more, stated, is) = (all, others ++ more, stated, is ∙ append_assoc lines others more)
 
--- The same for the first `n` lines.
+-- If some certificate begins with these lines, then some certificate begins with the first `n` of
+-- the lines.
 pub prefix_first : (n : ℕ) (lines : Lines) → ArePrefix lines → ArePrefix (take n lines)
 prefix_first n lines prefix =
     prefix_of_prefix (take n lines) (drop n lines) (subst (λ (l : Lines). ArePrefix l) (sym (take-append-drop n lines)) prefix)
@@ -207,7 +209,7 @@ certificates_have_no_fault bytes all n is fault = ⊎_elim at_line behind fault.
   behind (last, inl some) = some (sym same.1)
   behind (last, inr open') = open' whole
 
--- No fault comes after another fault.
+-- If line `m` is the first faulty line, then no later line is the first faulty line.
 never_later : (bytes : List ℕ) (m n : ℕ) → IsSyntaxAt bytes m → IsSyntaxAt bytes n → m < n → ⊥
 never_later bytes m n one two less = ⊎_elim at_line behind one.why where
   same : (one.lines ≡ two.lines) × (one.rest ≡ two.rest)

@@ -40,7 +40,8 @@ no_bytes (b ∷ bytes) test is yes' = absurd (let none : suc (length bytes) ≡ 
 
 -- ---- two numbers with a space
 
--- If the bytes begin with a number and a space, then they are split there.
+-- If the bytes begin with a number and a space, then the split at the first space is after the
+-- number.
 number_cut :
     (text object behind : List ℕ) → IsCut text 32 object behind → (n : ℕ) (rest : List ℕ) → IsNumber n → text ≡ decimal n ++ 32 ∷ rest
     → (object ≡ decimal n) × (behind ≡ 32 ∷ rest)
@@ -160,7 +161,7 @@ steps_go_on (s ∷ path) (t ∷ all) rest one two begins is =
     let whole : t ∷ all ≡ s ∷ (path ++ r.more) = cc in
     record { more = r.more; is = whole; encoded = r.encoded }
 
--- Some of the steps, and the text of the others.
+-- The text begins with these steps, and `rest` is the text of the other steps.
 pub record AreSteps (text path rest : List ℕ) : Type 0 where
   pub numbers : All IsNumber path
   pub encoded : text ≡ steps_text path ++ rest
@@ -207,7 +208,7 @@ apart : (m n : ℕ) (a b : List ℕ) → (m < n) → m ∷ a ≡ n ∷ b → ⊥
 apart m n a b less is = let first : m ≡ n = first_byte (m ∷ a) (n ∷ b) is in omega (arith, less, first)
 
 module _ (paths one behind : List ℕ) (cut : IsCut paths 32 one behind) where
-  -- The text is an aliasing conflict with these two paths, or no aliasing conflict.
+  -- If the text is not two paths separated by a space, then the text is no aliasing conflict.
   no_conflict :
       ((first second : List ℕ) → All IsNumber first → All IsNumber second → one ≡ path_text first → behind ≡ 32 ∷ path_text second → ⊥)
       → IsNoVerdict (codes "clash " ++ paths)

@@ -1,4 +1,5 @@
--- The lines of a certificate determine its entries, and how the lines may continue.
+-- The lines of a certificate determine the entries of the certificate, and how the lines may
+-- continue.
 use Rattle.std.proofs.Common.{ℕ, suc, ◌≤◌, ◌+◌, ◌^◌, ◌≡◌, ◌∙◌, ◌⊎◌, ⊎_elim, inl, inr, List, [], ◌∷◌, ◌++◌, length, refl, sym, ap, subst, arith, add-zero, append_assoc}
 use Rattle.std.specs.Prelude.{Contains, All, map, codes}
 use Rattle.std.proofs.lemmas.List.{append-nil}
@@ -42,7 +43,7 @@ pairs_are_one (p ∷ ps) (q ∷ qs) one two x y is =
     let r = pairs_are_one ps qs (All-tail AreNumbers p ps one) (All-tail AreNumbers q qs two) x y (rest_is _ _ _ _ is) in
     (both_are p q ps qs first r.0, r.1)
 
--- If the other pairs begin with these pairs, then the line is that of a pair.
+-- The pairs `qs` are `ps`, one more pair and further pairs; `line` is the line of that one pair.
 pub record HasPair (ps qs : List (ℕ × ℕ)) (line : List ℕ) : Type 0 where
   pub pair : ℕ × ℕ
   pub rest : List (ℕ × ℕ)
@@ -76,7 +77,7 @@ pairs_have_end (p ∷ ps) (q ∷ qs) x is = pairs_have_end ps qs x (rest_is _ _ 
 
 -- ---- entries
 
--- The lines after the first line.
+-- The lines after the first line of an entry, with the lines of later entries.
 behind : (one : Section) (x : Lines) → (pair_lines one ++ (codes "end" ∷ [])) ++ x ≡ pair_lines one ++ (codes "end" ∷ x)
 behind one x = append_assoc (pair_lines one) (codes "end" ∷ []) x
 
@@ -101,7 +102,8 @@ section_is_one k one other a b x y is =
       by_kind (sections.Conflict first second) (sections.Conflict one other) a b agree is =
           (ap (λ (p : List ℕ). sections.Conflict p second) agree.0 ∙ ap (λ (p : List ℕ). sections.Conflict one p) agree.1, rest_is _ _ _ _ is)
 
--- The entries begin with the complete ones.
+-- The entries `all` begin with the entries `whole`, and `more` is the lines of the remaining
+-- entries.
 pub record Begin (k : ℕ) (whole all : List Section) (more : Lines) : Type 0 where
   pub rest : List Section
   pub is : all ≡ whole ++ rest

@@ -82,7 +82,7 @@ digit_more bytes i n d m inside low high before is sum =
       omega (arith, sum, old, is, more, value),
     )
 
--- All digits have been read.
+-- If all bytes have been read, then all bytes are digits, and `n` is their number.
 pub whole : (bytes : List ℕ) (i n : ℕ) → length bytes ≤ i → i ≤ length bytes → AllDigits 10 (take i bytes) × (n ≡ digits_value 10 (take i bytes)) → AllDigits 10 bytes × (n ≡ digits_value 10 bytes)
 whole bytes i n low high held =
     let same : i ≡ length bytes = omega (arith, low, high) in
@@ -95,7 +95,7 @@ few_first : (bytes : List ℕ) (i : ℕ) → i ≤ 18 → i ≤ length bytes →
 few_first bytes i few inside all =
     let many = length-take-le i bytes inside in digits_value_short own (take i bytes) 18 all (omega (arith, many, few))
 
--- One more digit.
+-- If one more byte is a digit, then the invariant holds after the digit.
 pub first_more :
     (bytes : List ℕ) (i n d m : ℕ) → i < length bytes → 48 ≤ get_or bytes i 0 → get_or bytes i 0 ≤ 57
     → AllDigits 10 (take i bytes) × (n ≡ digits_value 10 (take i bytes)) → i < 18 → d ≡ get_or bytes i 0 - 48 → m ≡ 10 * n + d

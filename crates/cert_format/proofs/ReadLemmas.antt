@@ -33,7 +33,7 @@ at_before [] others k one at = absurd (let inside = slice_get_within [] k one at
 at_before (p ∷ pairs) others zero one at = at
 at_before (p ∷ pairs) others (suc k) one at = at_before pairs others k one at
 
--- In an increasing list the next pair is above the pairs before it.
+-- If a list of pairs is increasing, then each pair is above the pairs before it.
 next_is_above : (pairs : List (ℕ × ℕ)) (pair : ℕ × ℕ) (rest : List (ℕ × ℕ)) → AreIncreasing (pairs ++ (pair ∷ rest)) → IsAbove pairs pair
 next_is_above pairs pair rest increasing k one at =
     increasing k (length pairs) one pair (slice_get_within pairs k one at) (at_before pairs (pair ∷ rest) k one at) (at_push pairs pair rest)
@@ -42,7 +42,7 @@ all_at : (pairs : List (ℕ × ℕ)) (pair : ℕ × ℕ) (rest : List (ℕ × �
 all_at [] pair rest all = All-head AreNumbers pair rest all
 all_at (p ∷ pairs) pair rest all = all_at pairs pair rest (λ k d inside. all (suc k) d (omega (arith, inside)))
 
--- If a pair is larger than all others, then it can be added.
+-- If a pair is larger than all pairs of an open entry, then the pair can be added to the entry.
 pub has_one_more :
     (pairs longer : List (ℕ × ℕ)) (pair : ℕ × ℕ) (line : List ℕ) → IsStated (sections.Pairs pairs) → IsAbove pairs pair
     → IsPairLine line pair → longer ≡ pairs ++ pair ∷ [] → HasOneMore (sections.Pairs pairs) line (sections.Pairs longer)
@@ -67,7 +67,8 @@ module _ (whole : List Section) (stated : AreStated whole) where
   abbrev n : ℕ
   n = length whole
 
-  -- The entries of a certificate that begins with the lines of the complete entries.
+  -- If a certificate begins with the lines of the complete entries, then the certificate's entries
+  -- begin with the complete entries.
   rest_of : (all : List Section) → AreStated all → (more : Lines) → lines_from 0 all ≡ lines_from 0 whole ++ more → Begin 0 whole all more
   rest_of all others more is = begin_with 0 whole all stated.stated others.stated more is
 
@@ -75,7 +76,8 @@ module _ (whole : List Section) (stated : AreStated whole) where
   all_behind [] ys all = all
   all_behind (x ∷ xs) ys all = all_behind xs ys (λ k d inside. all (suc k) d (omega (arith, inside)))
 
-  -- The first entry after the complete ones.
+  -- If a certificate's entries begin with the complete entries, then the entry after the complete
+  -- entries can be written.
   next_stated : (all : List Section) → AreStated all → (section : Section) (rest : List Section) → all ≡ whole ++ (section ∷ rest) → IsStated section
   next_stated all others section rest is =
       All-head IsStated section rest (all_behind whole (section ∷ rest) (subst (λ (s : List Section). All IsStated s) is others.stated))
@@ -159,9 +161,9 @@ module _ (whole : List Section) (stated : AreStated whole) where
             none (next_number all others section rest whole') section (next_stated all others section rest whole')
             (sym (first_is _ _ _ _ lines) ∙ ap (λ (k : ℕ). head_line k section) (zero-add (length whole)))
 
-  -- The lines after the complete entries, if an entry is open.
+  -- The lines after the complete entries, if the entry `section` is open.
   module _ (section : Section) (own : IsStated section) where
-    -- The first entry after the complete ones has the verdict and the lines of the open entry.
+    -- The first entry after the complete entries has the verdict and the lines of the open entry.
     record IsNext (more : Lines) : Type 0 where
       next : Section
       stated' : IsStated next
@@ -300,12 +302,12 @@ nothing_read reading begun' text is same =
 
 -- ---- all of the lines
 
--- The claim by cases on the open entry.
+-- Some certificate begins with the parsed lines, with an open entry or without.
 pub prefix_of : (whole : List Section) (begun' : Option Section) → IsReading (record { whole = whole; begun = begun' }) → ArePrefix (lines_read (record { whole = whole; begun = begun' }))
 prefix_of whole None is = whole_is_prefix whole is.stated
 prefix_of whole (Some section) is = open_is_prefix whole is.stated section is.opened.0 is.opened.1
 
--- The line feed and the rest.
+-- If the remaining bytes are not empty, then they begin with a line feed.
 behind_feed : (rest : List ℕ) → BeginsAt 10 rest → (rest ≡ [] → ⊥) → rest ≡ 10 ∷ drop 1 rest
 behind_feed rest (inl none) some = absurd (some none)
 behind_feed rest (inr (more, is)) some = is ∙ ap (λ (z : List ℕ). 10 ∷ drop 1 z) (sym is)
@@ -313,7 +315,7 @@ behind_feed rest (inr (more, is)) some = is ∙ ap (λ (z : List ℕ). 10 ∷ dr
 pub lines_more : (xs ys : Lines) → text_of xs ++ text_of ys ≡ text_of (xs ++ ys)
 lines_more xs ys = sym (flat_map-append (λ (l : List ℕ). l ++ 10 ∷ []) xs ys)
 
--- Each line has a line feed, so there are at most as many lines as bytes.
+-- Each line has a line feed, so a text has at most as many lines as bytes.
 pub lines_few : (lines : Lines) → length lines ≤ length (text_of lines)
 lines_few [] = omega arith
 lines_few (line ∷ lines) =
@@ -351,7 +353,8 @@ at_begin from longer text many taken line rest run slice = record {
   cut : IsCut (drop taken text) 10 line rest
   cut = subst (λ (z : List ℕ). IsCut z 10 line rest) (take_rest text taken) slice
 
--- The bound on the remaining lines and bytes.
+-- The number of parsed lines and the number of remaining bytes are together at most the number of
+-- bytes.
 pub few_begin :
     (from longer : CertificateReading) (text : List ℕ) (many taken : ℕ) (line rest : List ℕ) → HasReadMore from text longer many taken
     → IsCut (take (length text - taken) (drop taken text)) 10 line rest → many + length rest ≤ length text
@@ -406,8 +409,8 @@ module _ (bytes : List ℕ) (reading : CertificateReading) (lines : ℕ) (line r
     one : text_of (line ∷ []) ++ drop 1 rest ≡ line ++ (10 ∷ drop 1 rest)
     one = ap (λ (z : List ℕ). z ++ drop 1 rest) (append-nil (line ++ 10 ∷ [])) ∙ append_assoc line (10 ∷ []) (drop 1 rest)
 
-  -- If no certificate continues with a complete line, then it is the first faulty line, with any
-  -- later bytes.
+  -- If no certificate continues with a complete line, then that line is the first faulty line,
+  -- whatever bytes follow.
   pub faulty_line : (later : List ℕ) → (rest ≡ [] → ⊥) → GoesNowhere reading line → IsSyntaxAt (bytes ++ later) (lines + 1)
   faulty_line later some nowhere =
       subst (λ (n : ℕ). IsSyntaxAt (bytes ++ later) (n + 1)) (sym at.counted)

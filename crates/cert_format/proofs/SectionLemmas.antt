@@ -1,4 +1,5 @@
--- If the last of increasing pairs is smaller than a pair, then all of them are.
+-- If the last of increasing pairs is smaller than a pair, then all of the increasing pairs are
+-- smaller than the pair.
 use Rattle.std.proofs.Common.{ℕ, zero, suc, ◌≡◌, ◌<◌, ◌-◌, ◌∙◌, ◌⊎◌, ⊎_elim, inl, inr, Bool, List, [], ◌∷◌, ◌++◌, length, Some, refl, sym, ap, subst, arith}
 use Rattle.std.specs.Prelude.{slice_get, IsTrue, ◌↔◌}
 use Rattle.std.proofs.lemmas.Option.{same_Some, none-some, slice_get_within}

@@ -39,7 +39,7 @@ leaves_more a b text rest more longer left is = record {
   write = left.write;
 }
 
--- A call failed.
+-- If a call on the sink fails, then a proper prefix was written.
 pub prefix_fails : {A E : Type 0} (a b : ByteState) (text rest : List ℕ) (result : Result A E) → IsErr result → WritesPart (change a b) text
     → WritesPrefix (change a b) text rest result
 prefix_fails a b text rest result is part =
@@ -49,7 +49,7 @@ pub all_fails : {A E : Type 0} (a b : ByteState) (text : List ℕ) (result : Res
     → WritesAll (change a b) text result
 all_fails a b text result is part = MatchResult-from_err result (λ _. Writes (change a b) text) (λ _. WritesPart (change a b) text) is (λ _. part)
 
--- If the rest is written after a prefix, then the whole text is written.
+-- If a prefix is written, and then the remaining text is written, then the whole text is written.
 pub all_then : {A E : Type 0} (a b c : ByteState) (text rest : List ℕ) (result : Result A E) → Leaves (change a b) text rest
     → WritesAll (change b c) rest result → WritesAll (change a c) text result
 all_then a b c text rest (Ok done) left all = writes_then a b c text rest left all
@@ -77,7 +77,7 @@ lines_more text pairs i pair at_i =
           take_more pairs i pair (slice_get_within pairs i pair at_i)
           ∙ ap (λ (p : ℕ × ℕ). take i pairs ++ p ∷ []) (get_or_from_slice_get pairs i pair pair at_i)
 
--- A proper prefix of the first lines is a proper prefix of all lines.
+-- A proper prefix of the first lines of pairs is a proper prefix of all lines of pairs.
 pub part_of_lines : (a b : ByteState) (text : List ℕ) (pairs : List (ℕ × ℕ)) (i : ℕ) → WritesPart (change a b) (text ++ lines_of (take i pairs))
     → WritesPart (change a b) (text ++ lines_of pairs)
 part_of_lines a b text pairs i part =

@@ -44,7 +44,8 @@ words_report one other position valid sound same =
     sym (le_bytes_8 (eight_from one position) (word_of one position) refl (eight_bytes one position valid) refl)
     ∙ le_bytes_8 (eight_from other position) (word_of one position) refl (eight_bytes other position sound) same
 
--- Hence each of the eight bytes is equal.
+-- If eight bytes of two lists form the same word, then the two bytes at each of the eight positions
+-- are equal.
 byte_known :
     (one other : List ℕ) (position k : ℕ) → AreBytes one → AreBytes other → word_of one position ≡ word_of other position → position ≤ k → k < position + 8
     → get_or one k 0 ≡ get_or other k 0
@@ -80,7 +81,7 @@ prefix_known text prefix many few within valid sound first last =
 
 -- ---- lines with a stem
 
--- A type with one digit.
+-- If the text begins with a digit and a line feed, then a type of one digit ends the line.
 pub short_end :
     (text : List ℕ) (n : ℕ) → 1 < length text → n ≡ get_or text 0 0 - 48 → 48 ≤ get_or text 0 0 → get_or text 0 0 ≤ 57
     → get_or text 1 0 ≡ 10 → IsPairEnd text n (take (length text - 2) (drop 2 text))
@@ -97,7 +98,7 @@ short_end text n some is low high feed = record {
       let same : get_or text 0 0 ≡ 48 + n = omega (arith, is, low) in
       ap (λ (b : ℕ). b ∷ []) same ∙ sym (decimal_digit n (omega (arith, is, high)))
 
--- The object of a line with the stem.
+-- The decimal text of an object is the digits of the stem, followed by the last digit.
 object_of :
     (number d : ℕ) → 0 < number → number < 10 ^ 17 → 48 ≤ d → d ≤ 57 → decimal (10 * number + (d - 48)) ≡ decimal number ++ d ∷ []
 object_of number d some small low high =

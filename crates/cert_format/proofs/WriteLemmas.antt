@@ -1,4 +1,4 @@
--- Entries that are written one after another.
+-- The texts of entries, one after another, are the text of all lines of the entries.
 use Rattle.std.proofs.Common.{ℕ, suc, ◌≡◌, ◌∙◌, List, [], ◌∷◌, ◌++◌, refl, sym, ap}
 use Rattle.std.proofs.lemmas.List.Concat.{flat_map-append}
 use Rattle.cert_format.specs.declared.section.Section.{Section}

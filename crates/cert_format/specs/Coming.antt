@@ -11,14 +11,15 @@ Bytes = List ℕ
 abbrev pub nothing : CertificateReading
 nothing = record { whole = []; begun = None }
 
--- The bytes consist of the parsed lines and the bytes that are kept.
+-- The bytes are the parsed lines, followed by the kept bytes.
 pub record HasKept (reading : CertificateReading) (lines : ℕ) (kept bytes : List ℕ) : Type 0 where
   pub is : IsReading reading
   pub counted : lines ≡ length (lines_read reading)
   pub encoded : bytes ≡ text_of (lines_read reading) ++ kept
 
--- Without a fault, all complete lines of the bytes were parsed and the incomplete line is kept.
--- With a fault, the first faulty line is complete, and any later bytes do not change it.
+-- If there is no fault, all complete lines of the bytes were parsed, and the incomplete line is
+-- kept. If there is a fault, the first faulty line is complete, and later bytes do not change which
+-- line is the first faulty line.
 abbrev pub HasComeTo : CertificateReading → ℕ → List ℕ → Option ℕ → List ℕ → Type 0
 HasComeTo reading lines kept None bytes = IsAt bytes reading lines kept []
 HasComeTo reading lines kept (Some n) bytes = (later : List ℕ) → IsSyntaxAt (bytes ++ later) n

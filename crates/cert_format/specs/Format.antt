@@ -33,7 +33,7 @@ verdict_text (sections.Mismatch path) = codes "misfit " ++ path_text path
 verdict_text (sections.Conflict first second) =
     codes "clash " ++ (path_text first ++ (codes " " ++ path_text second))
 
--- The first line of entry `k`, and the pair lines after it.
+-- The first line of entry `k`.
 abbrev pub head_line : ℕ → Section → List ℕ
 head_line k section = codes "value " ++ (decimal k ++ (codes " " ++ verdict_text section))
 
@@ -45,12 +45,12 @@ pair_lines (sections.Conflict first second) = []
 abbrev pub section_lines : ℕ → Section → List (List ℕ)
 section_lines k section = head_line k section ∷ (pair_lines section ++ codes "end" ∷ [])
 
--- The lines of all entries; the first entry has number `k`.
+-- The lines of all entries. The first entry has number `k`.
 abbrev pub lines_from : ℕ → List Section → List (List ℕ)
 lines_from k [] = []
 lines_from k (section ∷ more) = section_lines k section ++ lines_from (suc k) more
 
--- Each line ends with a line feed.
+-- The text of lines: each line, followed by a line feed.
 abbrev pub text_of : List (List ℕ) → List ℕ
 text_of lines = flat_map (λ line. line ++ 10 ∷ []) lines
 
@@ -64,7 +64,7 @@ pub record IsCertificate (bytes : List ℕ) (all : List Section) : Type 0 where
 
 -- ---- faults
 
--- The lines that end with a line feed, and the bytes after the last of them.
+-- The lines of the bytes that end with a line feed, and the bytes after the last line feed.
 pub record AreLinesOf (bytes : List ℕ) (lines : List (List ℕ)) (rest : List ℕ) : Type 0 where
   pub whole : bytes ≡ text_of lines ++ rest
   pub no_feed : (line : List ℕ) → Contains lines line → ¬ Contains line 10
@@ -80,9 +80,9 @@ ArePrefix lines =
 abbrev pub AreWhole : List (List ℕ) → Type 0
 AreWhole lines = (all : List Section) × AreStated all × (lines_from 0 all ≡ lines)
 
--- Line `n`, counted from 1, is the first faulty line: no certificate continues with it. If all
--- lines are possible, but the last line or entry is not complete, it is the line after the last
--- one.
+-- Line `n`, counted from 1, is the first faulty line: no certificate continues with line `n`. If
+-- all lines are possible, but the last line or entry is not complete, line `n` is the line after
+-- the last line.
 pub record IsSyntaxAt (bytes : List ℕ) (n : ℕ) : Type 0 where
   pub lines : List (List ℕ)
   pub rest : List ℕ

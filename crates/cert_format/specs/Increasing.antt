@@ -1,7 +1,7 @@
 -- The order of the pairs of objects and types in an entry.
 use Rattle.std.specs.Prelude.{ℕ, ◌<◌, ◌≡◌, ◌⊎◌, List, Some, slice_get}
 
--- The order is by object, then by type.
+-- Pair `one` is smaller than pair `other`: by object, then by type.
 abbrev pub IsSmaller : ℕ × ℕ → ℕ × ℕ → Type 0
 IsSmaller one other = (one.0 < other.0) ⊎ ((one.0 ≡ other.0) × (one.1 < other.1))
 

@@ -18,7 +18,7 @@ CertificatesHaveNoFault =
 abbrev pub FaultsAreOne : Type 0
 FaultsAreOne = (bytes : List ℕ) (m n : ℕ) → IsSyntaxAt bytes m → IsSyntaxAt bytes n → m ≡ n
 
--- The texts of entries; the first entry has number `k`.
+-- The texts of entries, one after another. The first entry has number `k`.
 abbrev pub texts_from : ℕ → List Section → List ℕ
 texts_from k [] = []
 texts_from k (section ∷ more) = section_text k section ++ texts_from (suc k) more

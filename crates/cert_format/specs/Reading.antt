@@ -19,7 +19,7 @@ use Rattle.cert_format.specs.Format.{head_line, lines_from, text_of, ArePrefix, 
 abbrev pub BeginsAt : ℕ → List ℕ → Type 0
 BeginsAt at bytes = (bytes ≡ []) ⊎ ((rest : List ℕ) × (bytes ≡ at ∷ rest))
 
--- The bytes, split before the first occurrence of `at`.
+-- `prefix` is the bytes before the first occurrence of `at`, and `rest` is the other bytes.
 pub record IsCut (bytes : List ℕ) (at : ℕ) (prefix rest : List ℕ) : Type 0 where
   pub whole : bytes ≡ prefix ++ rest
   pub none : ¬ Contains prefix at
@@ -48,7 +48,7 @@ IsStepsText text steps = All IsNumber steps × (text ≡ steps_text steps)
 abbrev pub IsNoStepsText : List ℕ → Type 0
 IsNoStepsText text = (steps : List ℕ) → ¬ IsStepsText text steps
 
--- The text begins with a step; then another step follows or the text ends.
+-- The text begins with a step. After the step, another step follows or the text ends.
 pub record IsStep (text : List ℕ) (step : ℕ) (rest : List ℕ) : Type 0 where
   pub number : IsNumber step
   pub encoded : text ≡ codes "." ++ (decimal step ++ rest)
@@ -103,7 +103,7 @@ pub record IsReading (reading : CertificateReading) : Type 0 where
   pub stated : AreStated reading.whole
   pub opened : IfSome reading.begun (λ section. IsStated section × IsNumber (length reading.whole))
 
--- The state after one more line.
+-- The state `next` is the state after one more line.
 pub record GoesOn (reading : CertificateReading) (line : List ℕ)
     (next : CertificateReading) : Type 0 where
   pub is : IsReading next
@@ -113,12 +113,14 @@ pub record GoesOn (reading : CertificateReading) (line : List ℕ)
 abbrev pub GoesNowhere : CertificateReading → List ℕ → Type 0
 GoesNowhere reading line = ¬ ArePrefix (lines_read reading ++ line ∷ [])
 
--- The meaning of a fault. If memory ran out, nothing is specified.
+-- A syntax fault is at the first faulty line. For the fault that memory ran out, nothing is
+-- specified.
 abbrev pub IsFaultOf : List ℕ → CertFault → Type 0
 IsFaultOf bytes (faults.Syntax n) = IsSyntaxAt bytes n
 IsFaultOf bytes faults.Memory = Unit {0}
 
--- Some lines were parsed, and `line` is the next one. It is complete if `rest` is not empty.
+-- The state of the parser: some lines were parsed, and `line` is the next line. If `rest` is not
+-- empty, `line` is complete.
 pub record IsAt (bytes : List ℕ) (reading : CertificateReading) (lines : ℕ)
     (line rest : List ℕ) : Type 0 where
   pub is : IsReading reading
@@ -128,8 +130,8 @@ pub record IsAt (bytes : List ℕ) (reading : CertificateReading) (lines : ℕ)
   pub none : ¬ Contains line 10
   pub begins : BeginsAt 10 rest
 
--- The first faulty line after the parsed lines is complete. So it is the first faulty line of the
--- whole text, with any later bytes.
+-- The first faulty line after the parsed lines is complete. So the first faulty line stays the
+-- first one of the whole text, whatever bytes follow.
 abbrev pub IsFaultFrom : CertificateReading → List ℕ → CertFault → Type 0
 IsFaultFrom reading text (faults.Syntax n) =
     (later : List ℕ)

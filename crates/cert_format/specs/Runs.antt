@@ -13,12 +13,13 @@ pub record IsFirstPair (text : List ℕ) (pair : ℕ × ℕ) (rest : List ℕ) :
   pub numbers : AreNumbers pair
   pub encoded : text ≡ pair_line pair ++ 10 ∷ rest
 
--- The bytes begin with the number of a type and the end of its line.
+-- The bytes begin with the number of a type and the line feed that ends the pair line.
 pub record IsPairEnd (text : List ℕ) (type : ℕ) (rest : List ℕ) : Type 0 where
   pub number : IsNumber type
   pub encoded : text ≡ decimal type ++ 10 ∷ rest
 
--- The stem of lines: the lines of pairs whose object is `tens` plus a digit begin with these bytes.
+-- The bytes are a stem: each line of a pair whose object is `tens` plus a digit begins with these
+-- bytes.
 pub record IsStem (bytes : List ℕ) (tens : ℕ) : Type 0 where
   pub many : 8 ≤ length bytes
   pub few : length bytes ≤ 16
@@ -36,7 +37,7 @@ eight_from bytes position =
     ∷ slice_index bytes (position + 5)
     ∷ slice_index bytes (position + 6) ∷ slice_index bytes (position + 7) ∷ []
 
--- These bytes as a little-endian 64-bit word.
+-- The eight bytes from position `position` as a little-endian 64-bit word.
 unfoldable pub word_of : List ℕ → ℕ → ℕ
 word_of bytes position = from_le_bytes w64 (eight_from bytes position)
 
@@ -48,7 +49,7 @@ pub record BeginsWithLines (text : List ℕ) (lines : List (List ℕ)) (many tak
   pub few : many ≤ taken
   pub encoded : text ≡ text_of lines ++ drop taken text
 
--- `longer` extends `pairs` by pairs whose lines the text begins with.
+-- `longer` is `pairs` with more pairs, whose lines are at the start of the text.
 pub record HasMorePairs (pairs : List (ℕ × ℕ)) (text : List ℕ) (longer : List (ℕ × ℕ))
     (many taken : ℕ) : Type 0 where
   pub added : List (ℕ × ℕ)
@@ -56,7 +57,7 @@ pub record HasMorePairs (pairs : List (ℕ × ℕ)) (text : List ℕ) (longer : 
   pub numbers : All AreNumbers longer
   pub begins : BeginsWithLines text (map pair_line added) many taken
 
--- The state after some lines that the text begins with.
+-- `next` is the state after some lines at the start of the text.
 pub record HasReadMore (reading : CertificateReading) (text : List ℕ) (next : CertificateReading)
     (many taken : ℕ)
     : Type 0 where

@@ -13,7 +13,8 @@ pub fn until(bytes: &[u8], at: u8) -> (&[u8], &[u8])
     (&bytes[..position], &bytes[position..])
 }
 
-// Returns the position of the first occurrence of `at`, or the length if there is none.
+// Returns the position of the first occurrence of `at`, or the length of the bytes if `at` does not
+// occur.
 fn position_of(bytes: &[u8], at: u8) -> usize
     ensures within { result ≤ length bytes.now }
     ensures before { (k : ℕ) → k < result → slice_index bytes.now k ≢ at }
@@ -27,7 +28,7 @@ fn position_of(bytes: &[u8], at: u8) -> usize
     bytes.len()
 }
 
-/// Returns the bytes after this prefix, or `None` if the bytes do not begin with it.
+/// Returns the bytes after this prefix, or `None` if the bytes do not begin with this prefix.
 #[inline(always)]
 pub fn after<'a>(bytes: &'a [u8], prefix: &[u8]) -> Option<&'a [u8]>
     ensures { MatchOption result ((rest : List ℕ) → bytes.now ≢ prefix.now ++ rest)

@@ -56,7 +56,7 @@ fn steps_of(alloc: Global, text: &[u8]) -> Result<Option<Path>, Memory>
     Ok(Some(path))
 }
 
-/// Parses the first step of a path, and returns it with the rest of the text.
+/// Parses the first step of a path. Returns the step and the text after the step.
 fn first_step(text: &[u8]) -> Option<(u64, &[u8])>
     ensures { MatchOption result (IsNoStep text.now) (λ p. IsStep text.now p.0 p.1.now) }
 {
@@ -66,8 +66,8 @@ fn first_step(text: &[u8]) -> Option<(u64, &[u8])>
     Some((step, rest))
 }
 
-/// Parses the verdict, which is the text after the entry's number. The pairs follow on lines of
-/// their own.
+/// Parses the verdict, which is the text after the entry's number. The pairs are on lines after the
+/// first line.
 fn verdict_of(alloc: Global, text: &[u8]) -> Result<Option<Section>, Memory>
     ensures { IfOk result (λ found. MatchOption found (IsNoVerdict text.now) (IsVerdict text.now)) }
 {

@@ -1,4 +1,4 @@
-//! Writing of pair lines to a sink through a buffer, so that they are never all in memory.
+//! Writes pair lines to a sink through a buffer, so that the lines are never all in memory.
 
 ghost use Rattle.std.specs.Prelude.{◌≡◌, ◌+◌, ◌≤◌, ◌++◌, ◌∷◌, [], length, map, decimal, OnOk};
 ghost use Rattle.std.specs.Prelude.{vec_len, vec_capacity};
@@ -21,7 +21,7 @@ pub fn append(text: &mut Vec<u8>, bytes: &[u8])
     text.extend_from_slice(bytes).unwrap();
 }
 
-/// Appends a number in decimal to a buffer that has room for it.
+/// Appends a number in decimal to a buffer that has room for the number.
 #[inline(always)]
 fn append_number(text: &mut Vec<u8>, n: u64)
     requires { vec_len text.old + 20 ≤ vec_capacity text.old }
@@ -32,7 +32,7 @@ fn append_number(text: &mut Vec<u8>, n: u64)
     append(text, Buffer::new().format(n).as_bytes());
 }
 
-/// Appends the line of a pair to a buffer that has room for it.
+/// Appends the line of a pair to a buffer that has room for the line.
 #[inline(always)]
 fn append_pair(text: &mut Vec<u8>, object: u64, ty: u64)
     requires { vec_len text.old + 64 ≤ vec_capacity text.old }
@@ -46,7 +46,7 @@ fn append_pair(text: &mut Vec<u8>, object: u64, ty: u64)
     append(text, b"\n");
 }
 
-/// If the buffer has no room for one more line, writes its contents to the sink.
+/// If the buffer has no room for one more line, writes the buffer's contents to the sink.
 #[inline(always)]
 pub fn make_room<K: Sink>(text: &mut Vec<u8>, out: &mut K) -> Result<(), Failed>
     requires { 64 ≤ vec_capacity text.old }
@@ -62,7 +62,8 @@ pub fn make_room<K: Sink>(text: &mut Vec<u8>, out: &mut K) -> Result<(), Failed>
     Ok(())
 }
 
-/// Writes the buffered text and the lines of pairs after it. The last part stays in the buffer.
+/// Writes the buffered text and the lines of the pairs after the buffered text. The last part stays
+/// in the buffer.
 pub fn write_lines<K: Sink>(
     text: &mut Vec<u8>,
     pairs: &CertificatePairs,

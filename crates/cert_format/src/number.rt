@@ -24,8 +24,8 @@ pub fn number_of(digits: &[u8]) -> Option<u64>
     if n < 1 << 63 { Some(n) } else { None }
 }
 
-/// Fast path: parses a number of at most 18 digits at the start of the text, and returns it with
-/// the rest of the text. May return `None` for a longer number.
+/// Fast path: parses a number of at most 18 digits at the start of the text. Returns the number and
+/// the text after the number. May return `None` for a longer number.
 #[inline(always)]
 pub fn first_number(text: &[u8]) -> Option<(u64, &[u8])>
     ensures { IfSome result (λ p. BeginsWithNumber text.now p.0 p.1.now) }

@@ -40,7 +40,7 @@ impl From<Memory> for CertFault {
     }
 }
 
-/// The state after some whole lines: the complete entries, and the open entry if there is one.
+/// The state after some whole lines: the complete entries, and the open entry if an entry is open.
 #[derive(Drop)]
 struct CertificateReading {
     whole: List<Section>,
@@ -68,8 +68,9 @@ pub fn read_cert(alloc: Global, bytes: &[u8]) -> Result<Cert, CertFault>
     read_all(reading, lines, line)
 }
 
-/// Parses the lines that end in the bytes. Returns the new state, the number of these lines, and
-/// the bytes after them. Reports the first line with which no certificate continues.
+/// Parses the lines that end in the bytes. Returns the new state, the number of parsed lines, and
+/// the bytes after the last parsed line. Reports the first line with which no certificate
+/// continues.
 fn with_lines<'a>(
     alloc: Global,
     reading: CertificateReading,
@@ -113,9 +114,9 @@ fn read_all(reading: CertificateReading, lines: usize, line: &[u8]) -> Result<Ce
     }
 }
 
-/// A parser that receives a certificate in chunks. It stores the state after the complete lines,
-/// the number of these lines, and the bytes after them. It also stores the first complete line with
-/// which no certificate continues.
+/// A parser that receives a certificate in chunks. The parser stores the state after the complete
+/// lines, the number of complete lines, and the bytes after them. If a complete line is faulty, the
+/// parser stores the first line with which no certificate continues.
 #[derive(Drop)]
 pub struct CertReader {
     alloc: Global,
@@ -197,8 +198,8 @@ impl CertReader {
     }
 }
 
-/// Fast path: parses some of the pair lines at the start of the bytes. Returns the new state and
-/// the numbers of parsed lines and bytes.
+/// Fast path: parses some of the pair lines at the start of the bytes. Returns the new state, the
+/// number of parsed lines and the number of parsed bytes.
 fn with_run(
     reading: CertificateReading,
     text: &[u8],
@@ -220,7 +221,7 @@ fn with_run(
     }
 }
 
-/// Parses one more line. Returns `None` if no certificate continues with it.
+/// Parses one more line. Returns `None` if no certificate continues with the line.
 fn with_line(
     alloc: Global,
     reading: CertificateReading,
@@ -268,7 +269,7 @@ fn with_pair(section: Section, line: &[u8]) -> Result<Option<Section>, Memory>
     }
 }
 
-/// Parses the line of a pair and adds the pair to the pairs.
+/// Parses the line of a pair and appends the pair to `pairs`.
 fn with_next(mut pairs: CertificatePairs, line: &[u8]) -> Result<Option<Section>, Memory>
     requires { IsStated (sections.Pairs pairs) }
     ensures { IfOk result (λ longer.

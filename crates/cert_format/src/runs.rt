@@ -11,8 +11,9 @@ use crate::section::CertificatePairs;
 use crate::stems::{first_agree, first_end, stem_of};
 use base_data::model::Memory;
 
-/// Parses a pair line at the start of the bytes. Returns the pair, the rest of the text, and the
-/// stem for similar lines. If the result is `None`, the bytes may still begin with such a line.
+/// Parses a pair line at the start of the bytes. Returns the pair, the text after the line, and the
+/// stem for lines with a similar object. If the result is `None`, the bytes may still begin with a
+/// pair line.
 #[inline(always)]
 fn first_pair<'a>(
     text: &'a [u8],
@@ -33,8 +34,8 @@ fn first_pair<'a>(
     Some(((object, ty), rest, like, at))
 }
 
-/// Parses pair lines at the start of the bytes, as long as the pairs increase, and adds the pairs.
-/// Returns the pairs and the numbers of parsed lines and bytes.
+/// Parses pair lines at the start of the bytes, as long as the pairs increase, and appends the
+/// pairs. Returns the pairs, the number of parsed lines and the number of parsed bytes.
 pub fn with_pairs(
     pairs: CertificatePairs,
     text: &[u8],

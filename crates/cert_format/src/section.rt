@@ -9,8 +9,9 @@ use base_data::model::path::Path;
 use std::alloc::Global;
 use std::marker::Model;
 
-/// Pairs of an object number and a type number, strictly increasing by object, then by type. The
-/// pairs before the first number of 2^32 or more take half the memory of the others.
+/// Pairs of an object number and a type number, strictly increasing by object, then by type. A pair
+/// in `small` takes half the memory of a pair in `large`. Pushed pairs go to `small` until a pair
+/// has a number of 2^32 or more.
 #[derive(Drop)]
 pub struct CertificatePairs {
     small: Vec<(u32, u32)>,
@@ -51,7 +52,8 @@ impl CertificatePairs {
         }
     }
 
-    /// Returns the number of pairs. They are strictly increasing.
+    /// Returns the number of pairs. The contract also states that the pairs are strictly
+    /// increasing.
     #[inline(always)]
     pub fn len(&self) -> usize
         ensures count { result ≡ length self.now }
@@ -74,7 +76,8 @@ impl CertificatePairs {
         self.large[i - many]
     }
 
-    /// Returns true if the pair is larger than the last pair, and hence larger than all pairs.
+    /// Returns true if the pair is larger than all pairs of the list. The list increases, so
+    /// comparing with the last pair suffices.
     #[inline(always)]
     pub fn is_above(&self, object: u64, ty: u64) -> bool
         ensures { IsTrue result ↔ IsAbove self.now (object, ty) }
@@ -86,8 +89,8 @@ impl CertificatePairs {
         is_smaller(self.at(many - 1), object, ty)
     }
 
-    /// Appends a pair that is larger than all others. If the result is `Memory`, the list is
-    /// unchanged.
+    /// Appends a pair that is larger than all pairs of the list. If the result is `Memory`, the
+    /// list is unchanged.
     #[inline(always)]
     pub fn push(&mut self, object: u64, ty: u64) -> Result<(), Memory>
         requires { IsAbove self.old (object, ty) }
@@ -99,8 +102,8 @@ impl CertificatePairs {
     }
 }
 
-/// Appends a pair to `small` if both numbers are below 2^32 and `large` is empty; otherwise to
-/// `large`.
+/// Appends a pair to `small` if its numbers are below 2^32 and `large` is empty. Otherwise appends
+/// the pair to `large`.
 #[inline(always)]
 fn append(
     small: &mut Vec<(u32, u32)>,

@@ -13,8 +13,8 @@ use base_data::model::Memory;
 use base_io::{Failed, Sink, WriteError, write_all};
 use std::alloc::Global;
 
-/// Returns the buffer size in bytes: room for the lines of all pairs if there are few, and at most
-/// 65,536.
+/// Returns the buffer size in bytes, at most 65,536. If there are few pairs, the buffer has room
+/// for all lines of the entry.
 fn room_of(section: &Section) -> usize
     ensures { result ≤ 65536 }
 {
@@ -25,8 +25,8 @@ fn room_of(section: &Section) -> usize
     }
 }
 
-/// Writes the entry for the value with this number to a sink. Allocates all memory first; the
-/// amount is small for any number of pairs. If a call on the sink fails, a proper prefix was
+/// Writes the entry for the value with this number to a sink. Allocates all memory before writing;
+/// the amount is small for any number of pairs. If a call on the sink fails, a proper prefix was
 /// written. If memory runs out, nothing was written.
 pub fn write_cert<K: Sink>(
     alloc: Global,
@@ -49,7 +49,7 @@ fn begun(alloc: Global, number: u64, section: &Section) -> Result<Vec<u8>, Memor
     ensures room { IfOk result (λ text. 64 ≤ vec_capacity text) }
 {
     let mut text = Vec::with_capacity(alloc, room_of(section))?;
-    write_head(&mut text, alloc, number, section)?;
+    write_head(&mut text, number, section)?;
     text.reserve(64)?;
     Ok(text)
 }
@@ -72,8 +72,8 @@ fn write_begun<K: Sink>(
     write_all(out, text.as_slice())
 }
 
-/// Writes the buffered text and the entry's pair lines after it, if there are any. The last part
-/// stays in the buffer.
+/// Writes the buffered text and the entry's pair lines after the buffered text. The last part stays
+/// in the buffer.
 fn write_body<K: Sink>(text: &mut Vec<u8>, section: &Section, out: &mut K) -> Result<(), Failed>
     requires { 64 ≤ vec_capacity text.old }
     ensures writes { WritesPrefix (change (K.state out.old) (K.state out.new))

@@ -1,5 +1,5 @@
--- If the pairs of a verdict have least type numbers, then they are those that paths reach. The laws
--- on certificate entries follow.
+-- If the pairs of a verdict are taken with least type numbers, then they are the pairs that paths
+-- reach. The laws on certificate entries follow.
 use Rattle.std.proofs.Common.{ℕ, ◌<◌, ◌≡◌, ◌∙◌, ⊎_elim, List, length, Some, sym, ap, subst, arith}
 use Rattle.std.specs.Prelude.{slice_index, map, Contains, ◌↔◌}
 use Rattle.base_data.proofs.model.Options.{Contains-map, map-Contains}
@@ -58,7 +58,8 @@ module _
       let many = are.many in
       are.least t (omega (arith, inside, many))
 
-  -- A pair comes from a pair of the typing.
+  -- The pair of object `o` and type `u` comes from a pair of the typing: `u` is the least number of
+  -- a type equal to the type in that pair.
   record IsFrom (o u : ℕ) : Type 0 where
     type : ℕ
     among : Contains typing (o, type)

@@ -1,4 +1,4 @@
--- The first types of classes, one type at a time.
+-- The first types of the classes of equal types, one type at a time.
 use Rattle.std.proofs.Common.{ℕ, ◌+◌, ◌≡◌, ◌∙◌, ⊎_elim, Option, Some, None, sym, ap, subst, arith}
 use Rattle.std.specs.Prelude.{slice_get}
 use Rattle.std.proofs.lemmas.Option.{same_Some, none-some}

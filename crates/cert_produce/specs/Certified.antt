@@ -10,8 +10,8 @@ use Rattle.cert_format.specs.declared.section.Section.{Section}
 use Rattle.cert_format.specs.declared.section.Section.TheVariants as sections
 use Rattle.cert_verify.specs.certificate.Normal.{AreReached}
 
--- If the value has the type with number 0, the pairs that paths reach, in the order of a
--- certificate entry. Otherwise, the value's first fault.
+-- The certificate entry certifies the value. If the value has type 0, the entry contains the pairs
+-- that paths reach, in the order of an entry. If not, the entry contains the value's least fault.
 abbrev pub IsCertified : Table → List Obj → Val → Section → Type 0
 IsCertified table graph root (sections.Pairs pairs) =
     HasType (table_shapes table) graph root 0 × AreReached table graph root pairs

@@ -10,14 +10,14 @@ use Rattle.cert_verify.specs.certificate.Accepted.{IsAccepted}
 use Rattle.cert_verify.specs.certificate.Verified.{IsVerified, shown_by}
 use Rattle.cert_produce.specs.Certified.{IsCertified}
 
--- If a certificate entry is that of a value, then it is accepted for the value.
+-- If an entry certifies a value, then the entry is accepted for the value.
 abbrev pub CertifiedAreAccepted : Type 0
 CertifiedAreAccepted =
     (table : Table) → AreLawful (table_shapes table) Everything
     → (graph : List Obj) (root : Val) (section : Section) → IsCertified table graph root section
     → IsAccepted table graph root section
 
--- The answer of the verifier to this entry is what the entry shows.
+-- If an entry certifies a value, then the verifier's answer to the entry is what the entry shows.
 abbrev pub CertifiedAreShown : Type 0
 CertifiedAreShown =
     (table : Table) → AreLawful (table_shapes table) Everything
@@ -25,7 +25,7 @@ CertifiedAreShown =
     → IsCertified table graph root section
     → IsVerified table graph root section answer → answer ≡ shown_by section
 
--- A value has only one certificate entry.
+-- Two entries that certify one value are equal.
 abbrev pub CertifiedAreOne : Type 0
 CertifiedAreOne =
     (table : Table) → AreLawful (table_shapes table) Everything

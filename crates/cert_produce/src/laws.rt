@@ -2,8 +2,8 @@
 
 ghost use Rattle.cert_produce.specs.Laws.{CertifiedAreAccepted, CertifiedAreShown, CertifiedAreOne};
 
-/// If a certificate entry is that of a value, then the verifier accepts it, and the verifier's
-/// answer is what the entry shows.
+/// If an entry certifies a value, then the verifier accepts the entry for the value, and the
+/// verifier's answer is what the entry shows.
 pub fn certified_sections_are_accepted()
     ensures accepted { CertifiedAreAccepted }
     ensures shown { CertifiedAreShown }

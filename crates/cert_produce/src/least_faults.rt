@@ -1,4 +1,4 @@
-//! The least equal type number for each type of a table.
+//! For each type of a table, the least number of an equal type.
 
 ghost use Rattle.std.specs.Prelude.{◌≡◌, ◌<◌, ◌+◌, length, IfOk, OnOk};
 ghost use Rattle.types_table.specs.type_table.Made.{table_of};
@@ -10,8 +10,8 @@ use std::collections::BTreeMap;
 use std::marker::Model;
 use types_table::type_table::TypeTable;
 
-/// For each type, the least number of an equal type. In contracts, its model is the list of these
-/// numbers.
+/// For each type of a table, the least number of an equal type. In contracts, the model of a
+/// `LeastFaults` is the list of these numbers.
 #[derive(Drop)]
 pub struct LeastFaults {
     least_faults: Vec<usize>,
@@ -26,7 +26,7 @@ impl Model for LeastFaults {
 }
 
 impl LeastFaults {
-    /// Returns the least numbers of a table.
+    /// Returns, for each type of a table, the least number of an equal type.
     pub fn of(alloc: Global, table: &TypeTable) -> Result<LeastFaults, Memory>
         ensures { IfOk result (AreLeastFaults (table_of table.now)) }
     {
@@ -42,7 +42,7 @@ impl LeastFaults {
     }
 }
 
-/// Returns for each type the first type of its class.
+/// Returns, for each type of a table, the first type of its class of equal types.
 fn least_faults_of(alloc: Global, table: &TypeTable) -> Result<Vec<usize>, Memory>
     ensures { IfOk result (λ least_faults. AreLeastFaults (table_of table.now) least_faults.items) }
 {
@@ -55,8 +55,9 @@ fn least_faults_of(alloc: Global, table: &TypeTable) -> Result<Vec<usize>, Memor
     Ok(least_faults)
 }
 
-/// Returns the first type of the class of `ty`. `firsts` has the first types for the classes of the
-/// earlier types. If `ty` is the first of its class, the function adds it to `firsts`.
+/// Returns the first type of the class of `ty`. `firsts` maps each class of the types before `ty`
+/// to the first type of the class. If `ty` is the first type of its class, the function adds `ty`
+/// to `firsts`.
 fn first_of(
     firsts: &mut BTreeMap<usize, usize>,
     table: &TypeTable,

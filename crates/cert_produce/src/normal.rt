@@ -42,7 +42,7 @@ fn at_least_faults(
     Ok(pairs)
 }
 
-/// Returns the same pairs in ascending order, without duplicates. The function sorts them in place
+/// Returns the pairs in ascending order, without duplicates. The function sorts the pairs in place
 /// and allocates nothing.
 fn in_order(alloc: Global, mut pairs: Vec<(u64, u64)>) -> CertificatePairs
     ensures same { (pair : ℕ × ℕ) → Contains result pair ↔ Contains pairs.items pair }

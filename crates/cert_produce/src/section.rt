@@ -36,8 +36,9 @@ pub fn section_of(
     section_with(alloc, heap, root, table, &least_faults, verdict)
 }
 
-/// Returns the certificate entry of one of many values. `least_faults` has the least numbers of the
-/// table's types, which are computed only once.
+/// Returns the certificate entry of one value, if entries of many values are made. `least_faults`
+/// contains the least number of an equal type for each type of the table, and is computed only
+/// once.
 pub fn section_with(
     alloc: Global,
     _heap: &Heap,

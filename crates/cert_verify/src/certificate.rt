@@ -1,8 +1,8 @@
 //! Type certificates: the result of a check, in a form that is verified against the value without
 //! search. A certificate entry lists pairs of objects and types that justify one another, or the
-//! paths of a fault. The laws `accepted_sections_are_right` and `answers_are_one` say that accepted
-//! entries are right and that each entry has one answer. The law `reached_pairs_are_accepted` says
-//! that the pairs written for a value that has its type are accepted.
+//! paths of a fault. The laws `accepted_sections_are_right` and `answers_are_one` state that
+//! accepted entries are right and that each entry has one answer. The law
+//! `reached_pairs_are_accepted` states that the pairs written for a value of the type are accepted.
 
 mod held;
 mod judge;

@@ -1,4 +1,4 @@
--- If clap accepts the arguments, then they parse to some request.
+-- If clap accepts the arguments, then the arguments parse to some request.
 use Rattle.std.proofs.Common.{◌≡◌, ◌∙◌, ◌||◌, ◌&&◌, ℕ, Bool, true, false, not, List, [], ◌∷◌, Option, Some, None, codes, refl, sym, ap, subst, arith}
 use Rattle.std.specs.Prelude.{if◌then◌else◌, option_and_then}
 use Rattle.std.specs.List.{list_any}
@@ -21,7 +21,7 @@ use Rattle.cli_args.proofs.SetLemmas.{form_fits, leaf_of, named_fault, named_met
 use Rattle.cli_args.proofs.TableLemmas.{AreFound, all_found, each_own, next_position, no_short, ruled, rules_from}
 use Rattle.cli_args.proofs.TopLemmas.{both_none, arguments_begin}
 
--- A number that clap accepts.
+-- If clap accepts the text of a number, then the rows have the number.
 number_there : (rows : List Row) (name : Text) (greatest : ℕ) (text : Text) → one_of name rows ≡ Some text → accepts false (Unsigned 0 greatest) text ≡ true → (n : ℕ) × HasNumber rows name greatest n
 number_there rows name greatest text has accepted =
     let in_range = accepts-Accepts false (Unsigned 0 greatest) text accepted in
@@ -81,7 +81,7 @@ module _ (c : List Rule) (rows : List Row) (are : AreRead c rows) where
       let later = arguments_there (next_position i (number name greatest)) rest (asks known.0) more have all.1 in
       (later.0, (known.0, known.1, later.1))
 
--- A command's name and arguments without a clap error.
+-- If a command's name and arguments give no clap error, then the command has a request.
 command_accepted : (form : Form) → form_of form.name ≡ Some form → (rest : List Text) → fault_of command_set (form.name ∷ rest) ≡ [] → (request : Request) × AreReadAs (form.name ∷ rest) request
 command_accepted form found rest none =
     let level = (both_none (level_fault (leaf_of form) [] nothing_held rest false []) [] (sym (named_fault form found rest) ∙ none)).0 in

@@ -1,4 +1,4 @@
--- The clap configuration of a command, as it is built.
+-- The clap configuration of a command, as the program builds the configuration.
 use Rattle.std.proofs.Common.{◌≡◌, ◌∙◌, ◌||◌, ◌<◌, ◌+◌, ℕ, false, List, [], ◌∷◌, ◌++◌, map, length, take, get_or, add-one, refl, sym, ap, ap₂, Result, Ok, Err, IfOk}
 use Rattle.std.specs.Prelude.{fold}
 use Rattle.std.proofs.Math.Seq.{take-suc}

@@ -1,4 +1,5 @@
--- If clap reports no error, then each row of a command has one value, which its argument accepts.
+-- If clap reports no error, then each row of a command has one value, which the row's argument
+-- accepts.
 use Rattle.std.proofs.Common.{◌≡◌, ◌∙◌, inl, inr, ◌==◌, ◌||◌, ◌&&◌, Bool, true, false, not, List, [], ◌∷◌, ◌++◌, Some, None, codes, length, refl, sym, ap, subst, arith}
 use Rattle.std.specs.Prelude.{if◌then◌else◌, option_map, slice_get}
 use Rattle.std.specs.List.{find}
@@ -36,12 +37,12 @@ no_kind false k none = cc none
 at_row_past : (id : Text) (change : Row → List Row) (missing : List Row) (r : Row) (rs : List Row) → bytes_eq r.id id ≡ false → at_row id change missing (r ∷ rs) ≡ r ∷ at_row id change missing rs
 at_row_past id change missing r rs other = ap (λ b. if b then change r ++ rs else r ∷ at_row id change missing rs) other
 
--- A name that no row has.
+-- If no row has a name, then the lookup of the name finds no row.
 pub none_of : (name : Text) (rows : List Row) → has_row name rows ≡ false → find (λ r. bytes_eq r.id name) rows ≡ None
 none_of name [] absent = refl
 none_of name (r ∷ rs) absent = let disjoint = or_parts (bytes_eq r.id name) (has_row name rs) absent in rw disjoint.0 (none_of name rs disjoint.1)
 
--- A row with a new name comes last.
+-- If a row has a new name, then the row is added as the last row.
 pub added_last : (id : Text) (change : Row → List Row) (new : Row) (rs : List Row) → has_row id rs ≡ false → at_row id change (new ∷ []) rs ≡ rs ++ new ∷ []
 added_last id change new [] absent = refl
 added_last id change new (r ∷ rs) absent =
@@ -62,7 +63,7 @@ has_last new (r ∷ rs) = go (bytes_eq r.id new.id) (has_last new rs)
     go true later = refl
     go false later = later
 
--- Other rows stay.
+-- If a row is changed or added, then the rows with different names stay.
 pub has_still : (id : Text) (new : Row) (rs : List Row) → has_row id rs ≡ true → has_row id (rs ++ new ∷ []) ≡ true
 has_still id new [] has = cc has
 has_still id new (r ∷ rs) has = go (bytes_eq r.id id) has (has_still id new rs)
@@ -83,7 +84,7 @@ neither_and : (b : Bool) → (b && not false) ≡ false → b ≡ false
 neither_and true e = e
 neither_and false e = refl
 
--- If an argument was not used before, then it adds a row at the end.
+-- If an argument was not used before, then the argument adds a row at the end.
 pub set_adds : (values : List Text) (id : Text) (how : Reading) (rows : List Row) → has_row id rows ≡ false
     → with_values id how CommandLine values (at_row id (λ _. []) [] rows) ≡ rows ++ record { id = id; values = values; count = None; source = Some CommandLine; reading = how } ∷ []
 set_adds values id how rows absent =
@@ -91,7 +92,7 @@ set_adds values id how rows absent =
     ∙ added_last id (more_values CommandLine values) (record { id = id; values = values; count = None; source = Some CommandLine; reading = how }) rows absent
 
 module _ (c : List Rule) where
-  -- The row has one value, and the argument of its name accepts that value.
+  -- The row has one value, which the argument with the row's name accepts.
   abbrev pub IsRead : Row → Type 0
   IsRead r =
       (a : Rule) × (arg_by_id c r.id ≡ Some a) × (text : Text) × (r.values ≡ text ∷ []) × (accepts a.ignore_case (parser_of_value a.parser) text ≡ true)
@@ -105,7 +106,7 @@ module _ (c : List Rule) where
   read_last new [] read are = (read, tt)
   read_last new (r ∷ rs) read (first, more) = (first, read_last new rs read more)
 
-  -- clap's result for a row that is present.
+  -- If a row is present, then clap's result is the one value of the row.
   pub row_read : (id : Text) (rs : List Row) → AreRead rs → has_row id rs ≡ true → (a : Rule) → arg_by_id c id ≡ Some a
       → (text : Text) × (first_of id rs ≡ Some text) × (one_of id rs ≡ Some (read_as (reading_by a) text)) × (accepts a.ignore_case (parser_of_value a.parser) text ≡ true)
   row_read id [] are has a is = cc has
@@ -165,7 +166,7 @@ module _ (c : List Rule) where
         subst (λ vs. AreRead (used a vs rows)) (sym one.1)
         (subst (λ act. AreRead (used_as act a.id (reading_by a) (one.0 ∷ []) rows)) (sym is.0) (set_read one.0 (subst (λ act. action_fault act false a (one.0 ∷ []) rows ≡ []) is.0 at_one)))
 
-  -- A use of a flag preserves it too.
+  -- If a flag is used without errors, then the rows keep their invariant.
   module _ (name : Text) (own : arg_by_id c name ≡ Some (filled (rule_for (flag name)))) (rows : List Row) (are : AreRead rows) where
     abbrev flag_rule : Rule
     flag_rule = filled (rule_for (flag name))

@@ -1,4 +1,4 @@
--- The rows of a command after clap has processed its arguments without an error.
+-- The rows of a command after clap has processed the command's arguments without an error.
 use Rattle.std.proofs.Common.{◌≡◌, ◌⊎◌, inl, inr, ◌&&◌, ◌==◌, ℕ, zero, suc, Bool, true, false, not, List, [], ◌∷◌, Option, Some, None, codes, drop, length, is_some, refl, sym, ap, subst}
 use Rattle.std.specs.Prelude.{if◌then◌else◌, encode_utf8, fold, slice_get}
 use Rattle.std.specs.List.{find, list_any}
@@ -24,7 +24,7 @@ GoesOn (trailing n) = Unit {0}
 GoesOn (subcommand name) = ⊥
 GoesOn value = Unit {0}
 
--- The result of an argument: the rows keep their invariant, and processing continues.
+-- After an argument, the rows keep their invariant, and processing continues.
 abbrev IsFine : List Rule → Held × Step → Type 0
 IsFine c met = AreRead c met.0.rows × GoesOn met.1
 

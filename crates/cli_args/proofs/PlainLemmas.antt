@@ -1,4 +1,5 @@
--- A command line in plain form is accepted, and makes the request that it states.
+-- If a command line is in plain form, then clap accepts the command line, which makes the request
+-- that it states.
 use Rattle.std.proofs.Common.{◌≡◌, ◌∙◌, ◌⊎◌, inl, inr, ◌≤◌, ◌<◌, ◌^◌, ◌||◌, ◌&&◌, ℕ, Bool, true, false, true≢false, not, List, [], ◌∷◌, ◌++◌, append-nil, append_assoc, cond, Option, Some, None, codes, is_some, refl, sym, ap, subst, arith}
 use Rattle.std.specs.Prelude.{if◌then◌else◌, fold, map, option_and_then, option_map, slice_get, unwrap_or}
 use Rattle.std.specs.List.{find, flat_map, list_any}
@@ -48,12 +49,12 @@ row_kept name r (x ∷ xs) more found = go (bytes_eq x.id name) refl (row_kept n
     go true e later = rw e (rw e at found)
     go false e later = rw e (later (rw e at found))
 
--- A row with a new name.
+-- If a row with a new name is added, then the lookup of the name finds the new row.
 row_last : (name : Text) (r : Row) (rows : List Row) → has_row name rows ≡ false → bytes_eq r.id name ≡ true → row_of name (rows ++ r ∷ []) ≡ Some r
 row_last name r [] absent is = rw is refl
 row_last name r (x ∷ xs) absent is = let disjoint = or_parts (bytes_eq x.id name) (has_row name xs) absent in rw disjoint.0 (row_last name r xs disjoint.1 is)
 
--- A row with another name.
+-- If a row with a different name is added, then the lookup of a name is unchanged.
 row_other : (name : Text) (r : Row) (rows : List Row) → bytes_eq r.id name ≡ false → row_of name (rows ++ r ∷ []) ≡ row_of name rows
 row_other name r [] other = rw other refl
 row_other name r (x ∷ xs) other = ap (λ o. cond (bytes_eq x.id name) (Some x) o) (row_other name r xs other)
@@ -80,12 +81,12 @@ disjoint_too a b e = go (bytes_eq b a) refl
 
 -- ---- the uses of options
 
--- The row of a default.
+-- The row of an option that is not used, with the default as its value.
 abbrev default_at : Text → Text → Row
 default_at name text = record { id = name; values = text ∷ []; count = None; source = Some DefaultValue; reading = AsWritten }
 
 module _ (level : Text) (c : List Rule) where
-  -- A use of a flag or an option that clap finds.
+  -- The use is that of a flag or an option that clap finds.
   abbrev IsWritten : Use → Type 0
   IsWritten (alone name) =
       (encodes name ≡ true) × (arg_by_id c name ≡ Some (ruled 1 (flag name))) × (arg_by_long c name ≡ Some (ruled 1 (flag name)))

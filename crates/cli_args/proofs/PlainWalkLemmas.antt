@@ -39,7 +39,7 @@ no_short (first ∷ rest) is = rw (ne_eqb first 45 is) refl
 abbrev pub standing : Held → ℕ → Walk
 standing h n = record { held = h; waiting = idle; position = n; is_trailing = false; stopped = None }
 
--- The argument is assigned to the next positional.
+-- If an argument stands alone, then clap assigns the argument to the next positional.
 argument_walked : (c : List Rule) (h : Held) (n : ℕ) (word : List ℕ) → IsArgument word
     → walked c [] (standing h n) word ≡ to_positional c (arg_by_index c n) word (standing h n) h
 unfolding walked
@@ -48,7 +48,7 @@ argument_walked c h n word is = rw (word_dashes word is, no_long word is, no_sho
 argument_turn : (s : Shape) (h : Held) (n : ℕ) (word : List ℕ) → IsArgument word → turn_fault s [] (standing h n) word ≡ step_fault s n h value
 argument_turn s h n word is = rw (word_dashes word is, no_long word is, no_short word is) refl
 
--- The argument is assigned to the option that waits for a value.
+-- The state in which an option waits for its value.
 abbrev waiting_for : Text → Held → ℕ → Walk
 waiting_for id h n = record { held = h; waiting = waits_for id; position = n; is_trailing = false; stopped = None }
 
@@ -61,7 +61,8 @@ option_walked c id h n word is = rw (word_dashes word is, no_long word is, no_sh
 option_turn : (s : Shape) (id : Text) (h : Held) (n : ℕ) (word : List ℕ) → IsArgument word → turn_fault s [] (waiting_for id h n) word ≡ []
 option_turn s id h n word is = rw (word_dashes word is, no_long word is, no_short word is) refl
 
--- If the first argument and the rest give no error, then the whole gives none.
+-- If the first argument and the remaining arguments give no error, then all arguments give no
+-- error.
 walk_no_fault : (s : Shape) (w next : Walk) (word : List ℕ) (rest : List (List ℕ)) → turn_fault s [] w word ≡ [] → walked s.rules [] w word ≡ next → walk_fault s [] next rest ≡ []
     → walk_fault s [] w (word ∷ rest) ≡ []
 unfolding walk_fault
@@ -71,7 +72,7 @@ pub walk_no_arguments : (s : Shape) (w : Walk) → walk_fault s [] w [] ≡ []
 unfolding walk_fault
 walk_no_arguments s w = refl
 
--- An option by its long name.
+-- If an argument is the long name of an option, then clap finds the option.
 long_walked : (c : List Rule) (h : Held) (n : ℕ) (word name : Text) (a : Rule) → bytes_eq word (45 ∷ 45 ∷ []) ≡ false → long_of word ≡ Some (name, None) → arg_by_long c name ≡ Some a
     → walked c [] (standing h n) word
     ≡ after_step c word (standing h n) (after_flag c idle word (long_met c (Some a) None h).0 (long_met c (Some a) None h).1).0 (after_flag c idle word (long_met c (Some a) None h).0 (long_met c (Some a) None h).1).1
@@ -120,17 +121,17 @@ module _ (level : Text) (c : List Rule) where
   abbrev own : Shape
   own = leaf level c
 
-  -- Processing these arguments leads from one state to another without an error.
+  -- Processing the arguments leads from one state to a second state without an error.
   abbrev pub Passes : Held → ℕ → List Text → Held → ℕ → Type 0
   Passes h n command_line h' n' =
       (rest : List Text) → (fold (walked c []) (standing h n) (command_line ++ rest) ≡ fold (walked c []) (standing h' n') rest)
       × (walk_fault own [] (standing h' n') rest ≡ [] → walk_fault own [] (standing h n) (command_line ++ rest) ≡ [])
 
-  -- The state has no error and gives these rows.
+  -- The state has no error and gives the rows `rows`.
   abbrev pub Holds : Held → List Row → Type 0
   Holds h rows = (settle_fault c false h ≡ []) × ((settled c h).rows ≡ rows)
 
-  -- Processing these arguments gives these rows.
+  -- Processing the arguments gives the rows `rows`.
   abbrev pub Comes : Held → ℕ → List Text → ℕ → List Row → Type 0
   Comes h n command_line n' rows = (h' : Held) × Passes h n command_line h' n' × Holds h' rows
 
@@ -151,7 +152,7 @@ module _ (level : Text) (c : List Rule) where
         holds',
       )
 
-  -- A pending argument with one value.
+  -- If a pending argument has one value, then the state gives the rows with the argument's row.
   pending_holds : (id text : Text) (a : Rule) (k : ℕ) (before rows after : List Row) → arg_by_id c id ≡ Some a → before ≡ rows → use_fault false a (text ∷ []) rows ≡ [] → used a (text ∷ []) rows ≡ after
       → Holds (record { rows = before; pending = Some (id, text ∷ []); skip = k }) after
   pending_holds id text a k before rows after by_id same none adds = (
@@ -224,7 +225,7 @@ module _ (level : Text) (c : List Rule) where
         pending_holds name text option_rule h.skip (settled c h).rows rows (rows ++ row_at name text ∷ []) by_id holds.1 option_fine (set_adds (text ∷ []) name AsWritten rows absent),
       )
 
-    -- A positional argument.
+    -- If a positional argument is processed, then the rows grow by the argument's row.
     position_comes : (id text : Text) (a : Rule) (n' : ℕ) → arg_by_id c id ≡ Some a → arg_by_index c n ≡ Some a → IsArgument text
         → to_positional c (Some a) text (standing h n) h ≡ standing (record (settled c h) { pending = Some (id, text ∷ []) }) n'
         → positional_fault c false a h ≡ settle_fault c false h → use_fault false a (text ∷ []) rows ≡ [] → used a (text ∷ []) rows ≡ rows ++ row_at id text ∷ []

@@ -126,8 +126,8 @@ module _ (app : App) (set : app ≡ command_set) (command_line : List (List ℕ)
   met : (matches : ArgMatches) → HasMatchesOf app command_line matches → subcommand_rows_of matches ≡ subcommand_of command_set command_line
   met matches found = (found (ap is_simple set ∙ set_is_simple)).1 ∙ ap (λ a. subcommand_of a command_line) set
 
-  -- If clap accepts the arguments, then they are read as some request. The result is this request,
-  -- unless the request is a certificate of a single value.
+  -- If clap accepts the arguments, then the arguments are read as some request. Unless the request
+  -- is a certificate of a single value, the result is the request.
   accepted_read : (matches : ArgMatches) → (is_simple_and_free app ≡ true → fault_of app command_line ≡ []) → HasMatchesOf app command_line matches → (result : Option Reading) → ReadsMet matches result
       → (request : Request) × (if_whole request ≡ option_map request_of result) × AreReadAs command_line request
   accepted_read matches accepts found result reads =

@@ -64,7 +64,7 @@ request_known command rows request (form, found, has) =
     ap (option_map (λ (f : Form). asked f.arguments f.asks rows)) found
     ∙ ap (λ r. Some r) (sym (arguments_known form.arguments form.asks rows request (form_fits command form found).0 has))
 
--- The request to which accepted arguments parse.
+-- If accepted arguments parse to a request, then the command and its rows determine the request.
 pub reads_by : (command_line : List (List ℕ)) (request : Request) (command : List ℕ) (rows : List Row) → Accepted command_line command rows → AsksBy command rows request → AreReadAs command_line request
 unfolding AreReadAs
 reads_by command_line request command rows accepted by = (command, rows, accepted, by)
@@ -73,7 +73,8 @@ pub read_parts : (command_line : List (List ℕ)) (request : Request) → AreRea
 unfolding AreReadAs
 read_parts command_line request read = read
 
--- The request that they make.
+-- If arguments parse to a request that is not a certificate of a single value, then the arguments
+-- make the request.
 pub asks_whole : (command_line : List (List ℕ)) (request : Request) → AreReadAs command_line request → is_whole request ≡ true → Asks command_line request
 unfolding Asks
 asks_whole command_line request read whole = (read, whole)

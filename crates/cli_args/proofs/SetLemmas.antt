@@ -1,4 +1,4 @@
--- The command set as clap builds it, and its treatment of a command's name.
+-- The command set as clap builds the set, and how clap treats a command's name.
 use Rattle.std.proofs.Common.{◌≡◌, ◌∙◌, ◌<◌, ◌&&◌, Bool, true, false, List, [], ◌∷◌, ◌++◌, map, length, Option, Some, None, append-nil, append_assoc, codes, is_some, refl, sym, ap, subst}
 use Rattle.std.specs.Prelude.{fold, nat_lt, option_map}
 use Rattle.std.specs.List.{find, list_all}
@@ -18,7 +18,7 @@ use Rattle.base_data.proofs.model.Lists.{found_passes}
 
 -- ---- clap's internal form
 
--- A command with these arguments.
+-- A command with the arguments `rules`.
 abbrev pub leaf : Text → List Rule → Shape
 leaf name rules = record (new_shape name) {
   rules = rules;
@@ -123,7 +123,7 @@ no_help word form found = go (bytes_eq word (codes "help")) refl
 
 -- ---- a command's name
 
--- Processing stops at a command's name, with the arguments after it.
+-- The state in which processing stops at a command's name, with the arguments after the name.
 abbrev stopped_at : Walk → Text → List Text → Walk
 stopped_at w name rest = record w { stopped = Some (name, rest) }
 
@@ -133,7 +133,7 @@ stopped_walk c names w name before [] = ap (stopped_at w name) (sym (append-nil 
 stopped_walk c names w name before (word ∷ rest) =
     stopped_walk c names w name (before ++ word ∷ []) rest ∙ ap (stopped_at w name) (append_assoc before (word ∷ []) rest)
 
--- clap recognizes the command and finds it.
+-- clap recognizes the name of the command and finds the command.
 abbrev IsNamed : Form → Type 0
 IsNamed form =
     (subcommand_met command_names idle form.name ≡ Some form.name) × (find (λ s. answers_to form.name (label_of s)) commands.subs ≡ Some (leaf_of form)) × (bytes_eq form.name (codes "help") ≡ false)
@@ -183,12 +183,12 @@ module _ (form : Form) (found : form_of form.name ≡ Some form) where
     unfolding defaults_fault
     within = ap (fault_within rest) named.1
 
-    -- The error is the command's own error.
+    -- If arguments begin with a command's name, then the error is the command's own error.
     pub named_fault : fault_of command_set (name ∷ rest) ≡ or_else (level_fault (leaf_of form) [] nothing_held rest false []) []
     named_fault =
         fault_is (name ∷ rest)
         ∙ (ap (λ k. or_else k (fault_after (walk [] command_names nothing_held (name ∷ rest)))) name_passes ∙ (ap fault_after name_walk ∙ within))
 
-    -- The arguments are the command's own arguments.
+    -- If arguments begin with a command's name, then the command gets the remaining arguments.
     pub named_met : subcommand_of command_set (name ∷ rest) ≡ Some (name, rows_after (rules_of form) [] rest)
     named_met = met_is (name ∷ rest) ∙ (ap (λ (w : Walk). entered commands w.stopped) name_walk ∙ ap (option_map (λ s. rows_at s rest)) named.1)

@@ -39,7 +39,7 @@ both false b e = cc e
 abbrev pub ruled : ℕ → Argument → Rule
 ruled i a = with_index i (filled (rule_for a))
 
--- An option with a number up to `greatest` and these defaults.
+-- An option with a number up to `greatest` and the defaults `usual`.
 abbrev pub taking : Text → ℕ → List Text → Rule
 taking name greatest usual =
     with_index 1 (filled (record (new_rule name) { long = Some name; parser = Some (Unsigned 0 greatest); defaults = usual }))
@@ -75,7 +75,7 @@ pub no_dashes : (name : Text) → encodes name ≡ true → bytes_eq (codes "--"
 no_dashes [] e = cc e
 no_dashes (x ∷ xs) e = refl
 
--- The name can be written, the default is accepted, and numbers fit in 64 bits.
+-- The argument's name can be written, its default is accepted, and its numbers fit in 64 bits.
 abbrev pub is_lawful : Argument → Bool
 is_lawful (flag name) = encodes name
 is_lawful (option name greatest usual) =
@@ -159,7 +159,7 @@ skip_long (optional name greatest) j c n e = rw e refl
 skip_long (wanted name) j c n e = refl
 skip_long (number name greatest) j c n e = refl
 
--- Positional indices are small.
+-- If a positional index is below 1000, then the next index is one more.
 next_up : (i : ℕ) → i < 1000 → min (i + 1) usize_max ≡ i + 1
 next_up i few = omega arith
 
@@ -181,7 +181,7 @@ found_past b j c i (optional name greatest) e few least found = (skip_id b j c n
 found_past b j c i (wanted name) e few least found = (skip_id b j c name e ∙ found.0, skip_index b j c i few least ∙ found.1)
 found_past b j c i (number name greatest) e few least found = (skip_id b j c name e ∙ found.0, skip_index b j c i few least ∙ found.1)
 
--- The next positional index is the same or one more.
+-- The next positional index is the current index or one more.
 next_within : (i : ℕ) (a : Argument) → i < 1000 → (i ≤ next_position i a) × (next_position i a ≤ i + 1)
 next_within i (flag name) few = (omega arith, omega arith)
 next_within i (option name greatest usual) few = (omega arith, omega arith)
@@ -197,7 +197,7 @@ are_past b j c i (a ∷ rest) fresh few least short (found, more) =
     let within = next_within i a (omega (arith, short)) in
     (found_past b j c i a disjoint.0 few least found, are_past b j c (next_position i a) rest disjoint.1 few (omega (arith, within.0, least)) (omega (arith, within.1, short)) more)
 
--- clap finds each argument.
+-- If the arguments are lawful, then clap finds each argument.
 pub all_found : (i : ℕ) (arguments : List Argument) → are_lawful arguments ≡ true → i + length arguments < 1000 → AreFound (rules_from i arguments) i arguments
 all_found i [] lawful short = tt
 all_found i (a ∷ rest) lawful short =
@@ -227,11 +227,11 @@ one_value = record { start_inclusive = 1; end_inclusive = 1 }
 abbrev pub TakesOne : Rule → Type 0
 TakesOne a = (action_of a ≡ Set) × (unwrap_or_range a.range ≡ one_value)
 
--- The rule is that of a flag.
+-- The rule is the rule of a flag.
 abbrev pub IsFlag : Rule → Type 0
 IsFlag a = (name : Text) × (a ≡ filled (rule_for (flag name)))
 
--- A rule that clap finds by its id.
+-- The rule is found by its id, and takes one value or is that of a flag.
 abbrev pub IsOwn : List Rule → Rule → Type 0
 IsOwn c a = (arg_by_id c a.id ≡ Some a) × (TakesOne a ⊎ IsFlag a)
 

@@ -15,7 +15,7 @@ use Rattle.cli_spec.specs.CommandLine.{Form, command_set, form_of}
 use Rattle.cli_args.proofs.SetLemmas.{command_names, commands, fault_is, found_name, met_by, top}
 use Rattle.cli_args.proofs.TableLemmas.{is_text}
 
--- If two steps together give no error, then neither does.
+-- If two steps together give no error, then neither step gives an error.
 pub both_none : (a b : Kinds) → or_else a b ≡ [] → (a ≡ []) × (b ≡ [])
 both_none [] b none = (refl, none)
 both_none (k ∷ ks) b none = cc none
@@ -32,7 +32,7 @@ command_or_none word = go (form_of word) refl
 
 -- ---- an argument that names no command
 
--- The error of an argument, followed by the error of the step after it.
+-- The error of an argument, followed by the error of the next step.
 abbrev fault_then : Kinds → Held × Step → Kinds
 fault_then fault met = or_else fault (step_fault top 1 met.0 met.1)
 
@@ -66,7 +66,7 @@ word_refused word unnamed no_dashes none =
     (if b then (nothing_held, trailing 1) else long_or_other [] idle word (long_of word) nothing_held)) no_dashes) ∙ at_none in
     flag_refused word (long_of word) at_flag
 
--- After `--` no argument is accepted; without an argument a command is missing.
+-- After `--`, no argument is accepted. If no argument follows `--`, a command is missing.
 dashes_refused : (rest : List Text) → built_fault commands nothing_held (codes "--" ∷ rest) ≡ [] → ⊥
 unfolding clap_on_literals
 dashes_refused [] none = let bad : kind.MissingSubcommand ∷ [] ≡ [] = none in cc bad
@@ -94,7 +94,7 @@ unnamed_refused word rest unnamed none = go (is_text (codes "--") word)
             absurd (true≢false (subst (λ w. bytes_eq (codes "--") w ≡ false) same other))
         flipped false e = e
 
--- The arguments begin with a command's name.
+-- If clap reports no error, then the arguments begin with a command's name.
 pub arguments_begin : (command_line : List Text) → fault_of command_set command_line ≡ [] → (form : Form) × (rest : List Text) × (command_line ≡ form.name ∷ rest) × (form_of form.name ≡ Some form)
 arguments_begin command_line none = go command_line (sym (fault_is command_line) ∙ none)
   where

@@ -14,7 +14,7 @@ use Rattle.cli_args.specs.declared.command_set.Argument.TheVariants as arguments
 abbrev pub Form : Type 0
 Form = Bor (List ℕ) × Bor (List Argument)
 
--- The argument in terms of the specification.
+-- The argument as an argument of the specification.
 abbrev pub argument_of : Argument → outcome.Argument
 argument_of (arguments.Flag name) = outcome.flag name.now
 argument_of (arguments.Option name greatest usual) = outcome.option name.now greatest usual.now
@@ -22,15 +22,15 @@ argument_of (arguments.Optional name greatest) = outcome.optional name.now great
 argument_of (arguments.Word name) = outcome.wanted name.now
 argument_of (arguments.Number name greatest) = outcome.number name.now greatest
 
--- A single command with this name and these arguments.
+-- A single command with the given name and arguments.
 abbrev pub app_with : List ℕ → List Argument → App
 app_with name more = record { top = shape_for name (map argument_of more); subs = [] }
 
--- The command has this configuration, and none of its arguments is global.
+-- The command has the configuration `app`, and no argument of the command is global.
 abbrev pub Reports : Command → App → Type 0
 Reports command app = (app_of command ≡ app) × ((out-Command command).has_globals ≡ false)
 
--- The program without commands, and with some of them.
+-- The program without commands.
 abbrev pub program : App
 program = record { top = record command_set.top { is_leaf = true }; subs = [] }
 

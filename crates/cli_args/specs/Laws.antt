@@ -10,14 +10,14 @@ HasOneRequest =
     → Asks command_line other
     → request ≡ other
 
--- A command line in plain form makes the request that it states.
+-- A command line in plain form makes the request that the command line states.
 abbrev pub PlainArgumentsAsk : Type 0
 PlainArgumentsAsk =
     (command_line : List (List ℕ)) (request : Request) → ArePlain command_line request
     → Asks command_line request
 
--- If clap reports no error, then the arguments parse to some request. They make this request,
--- unless it is a certificate of a single value.
+-- If clap reports no error, then the arguments parse to some request. Unless the request is a
+-- certificate of a single value, the arguments make the request.
 abbrev pub AcceptedArgumentsAreRead : Type 0
 AcceptedArgumentsAreRead =
     (command_line : List (List ℕ)) → fault_of command_set command_line ≡ []

@@ -50,15 +50,15 @@ check_asks certified file type lines reading =
     if certified then outcome.own (outcome.certify file type lines reading)
     else outcome.report outcome.the_verdict file type lines reading
 
--- The arguments of a command.
+-- The arguments that clap found for a command, as rows.
 abbrev pub arguments_of : ArgMatches → List Row
 arguments_of matches = rows_of (found_of matches)
 
--- The argument with this name, or the empty text.
+-- The argument with the name `name`, or the empty text if the argument is absent.
 abbrev pub word_in : List Row → List ℕ → List ℕ
 word_in rows name = unwrap_or (first_of name rows) []
 
--- True if the flag with this name is used.
+-- True if the flag with the name `name` is used.
 abbrev pub flag_in : List Row → List ℕ → Bool
 flag_in rows name = bytes_eq (word_in rows name) (codes "true")
 
@@ -67,7 +67,7 @@ abbrev pub style_in : List Row → Style
 style_in rows =
     outcome.styled_by (flag_in rows (codes "pretty")) (flag_in rows (codes "decimal"))
 
--- The 64-bit number in a text, if there is one.
+-- The 64-bit number in a text, or `None` if the text has no such number.
 abbrev pub number_of : Option (List ℕ) → Option ℕ
 number_of None = None
 number_of (Some text) =
@@ -75,27 +75,27 @@ number_of (Some text) =
     then Some (digits_value 10 (without_leading_plus text))
     else None
 
--- The number with this name, if it is given.
+-- The number with the name `name`, or `None` if the number is not given.
 abbrev pub given_in : List Row → List ℕ → Option ℕ
 given_in rows name = number_of (one_of name rows)
 
--- The number with this name, or 0.
+-- The number with the name `name`, or 0 if the number is not given.
 abbrev pub number_in : List Row → List ℕ → ℕ
 number_in rows name = unwrap_or (given_in rows name) 0
 
--- The options for reading values, with this number for `--only`.
+-- The options for reading values, where `only` is the number for `--only`.
 abbrev pub choosing_in : List Row → Option ℕ → ReadOptions
 choosing_in rows only =
     outcome.read_by (number_in rows (codes "limit")) (number_in rows (codes "skip")) only
 
--- The options for reading all values, and the options for a command that accepts `--only`.
+-- The options for reading all values.
 abbrev pub reading_in : List Row → ReadOptions
 reading_in rows = choosing_in rows None
 
 abbrev pub command_sum_in : List Row → ReadOptions
 command_sum_in rows = choosing_in rows (given_in rows (codes "only"))
 
--- The request, if all arguments are present.
+-- The request of a command whose arguments are all present.
 abbrev pub asked : (arguments : List Argument) → Asking arguments → List Row → outcome.Request
 asked [] asks rows = asks
 asked (flag name ∷ rest) asks rows = asked rest (asks (flag_in rows name)) rows
@@ -104,15 +104,15 @@ asked (optional name greatest ∷ rest) asks rows = asked rest (asks (given_in r
 asked (wanted name ∷ rest) asks rows = asked rest (asks (word_in rows name)) rows
 asked (number name greatest ∷ rest) asks rows = asked rest (asks (number_in rows name)) rows
 
--- The request by a command's name.
+-- The request of the command with the given name.
 abbrev pub asked_by : List ℕ → List Row → Option outcome.Request
 asked_by command rows = option_map (λ form. asked form.arguments form.asks rows) (form_of command)
 
--- The request, unless it is a certificate of a single value.
+-- The request, or `None` if the request is a certificate of a single value.
 abbrev pub if_whole : outcome.Request → Option outcome.Request
 if_whole request = if outcome.is_whole request then Some request else None
 
--- The result is the request of a command with these arguments.
+-- The result is the request of the command with the arguments `rows`.
 abbrev pub ReadsBy : List ℕ → List Row → Option Request → Type 0
 ReadsBy command rows result =
     option_and_then if_whole (asked_by command rows) ≡ option_map request_of result
@@ -123,14 +123,14 @@ ReadsMet matches result =
     (command : List ℕ) (rows : List Row) → subcommand_rows_of matches ≡ Some (command, rows)
     → ReadsBy command rows result
 
--- The same, with `Usage` if there is no request.
+-- The result is the request of the command that clap found, or `Usage` if there is no request.
 abbrev pub ReadsAsked : ArgMatches → Result Request ArgumentsError → Type 0
 ReadsAsked matches (Ok request) = ReadsMet matches (Some request)
 ReadsAsked matches (Err Usage) = ReadsMet matches None
 ReadsAsked matches (Err Memory) = ⊥
 
--- The result is the request of the arguments, or `Usage` if they make none. If memory ran out,
--- nothing is specified.
+-- The result is the request of the arguments. If the arguments make no request, the result is
+-- `Usage`. If memory ran out, nothing is specified.
 abbrev pub ReadsArguments : List (List ℕ) → Result Request ArgumentsError → Type 0
 ReadsArguments command_line (Ok request) = outcome.Asks command_line (request_of request)
 ReadsArguments command_line (Err Usage) = outcome.IsUsage command_line

@@ -13,7 +13,7 @@ use std::alloc::{AllocError, Global};
 /// An argument of a command.
 #[derive(Clone, Copy)]
 enum Argument<'a> {
-    /// `--NAME`, which is used or not.
+    /// `--NAME`, a flag that is used or not.
     Flag(&'a str),
     /// `--NAME N`: a number with a maximum and a default.
     Option(&'a str, u64, &'a str),
@@ -40,7 +40,7 @@ const GREATEST_ONLY: u64 = (1 << 63) - 1;
 // The maximum NUMBER of a generated value.
 const GREATEST_NUMBER: u64 = 2147483647;
 
-// The maximum COUNT of its items.
+// The maximum COUNT of the items of a generated value.
 const GREATEST_COUNT: u64 = 1000000;
 
 const LIMIT: Argument<'static> = Argument::Option("limit", GREATEST_LIMIT, "134217728");
@@ -117,7 +117,7 @@ fn rule<'a>(alloc: Global, argument: Argument<'a>) -> Arg<'a>
     }
 }
 
-// Builds a command with this name and these arguments.
+// Builds a command with the given name and arguments.
 fn made<'a>(
     alloc: Global,
     name: &'a str,
@@ -144,7 +144,7 @@ fn program<'a>(alloc: Global) -> Command<'a>
         .disable_help_subcommand(true)
 }
 
-// Adds a command, if it could be built.
+// Adds a command, if the command could be built.
 fn with<'a>(
     all: Command<'a>,
     made: Result<Command<'a>, AllocError>,

@@ -1,4 +1,4 @@
-//! Laws over the definitions, as contracts of lemma functions.
+//! The laws of the command line, as contracts of lemma functions without a body.
 
 ghost use Rattle.cli_args.specs.Laws.{AcceptedArgumentsAreRead, HasOneRequest, PlainArgumentsAsk};
 
@@ -7,7 +7,8 @@ pub fn one_request()
     ensures { HasOneRequest }
 {}
 
-/// States that a command line in plain form is accepted and makes the request that it states.
+/// States that a command line in plain form is accepted and makes the request that the command line
+/// states.
 pub fn plain_arguments_ask()
     ensures { PlainArgumentsAsk }
 {}

@@ -78,7 +78,8 @@ pub enum Request<'a> {
         lines: bool,
         decimal: bool,
     },
-    /// Reports whether a certificate proves, for each value, whether it has the type.
+    /// Reports for each value whether a certificate proves that the value has the type, or has it
+    /// not.
     Verify {
         file: &'a str,
         type_text: &'a str,
@@ -86,27 +87,28 @@ pub enum Request<'a> {
         lines: bool,
         reading: ReadOptions,
     },
-    /// Writes a certificate for the values of the input: the reason why each has the type or does
-    /// not have it.
+    /// Writes a certificate for the values of the input: the reason why each value has the type or
+    /// does not have the type.
     Certify {
         file: &'a str,
         type_text: &'a str,
         lines: bool,
         reading: ReadOptions,
     },
-    /// Prints the line for the generated value of a number, with `count` items, at the type.
+    /// Prints the line for the generated value with the number `number`, with `count` items, at the
+    /// type.
     Generate {
         number: u64,
         count: u64,
         type_text: &'a str,
     },
-    /// Reports where values are in the input.
+    /// Reports the offsets of the values that a search finds in the input.
     Scan {
         limit: u64,
     },
 }
 
-/// Error of parsing the arguments: they make no request, or memory ran out.
+/// Error of parsing the arguments: the arguments make no request, or memory ran out.
 #[derive(Clone, Copy)]
 pub enum ArgumentsError {
     Usage,
@@ -124,14 +126,14 @@ impl From<AllocError> for ArgumentsError {
     }
 }
 
-// Returns the argument with this name, or the empty text.
+// Returns the argument with the name `name`, or the empty text if the argument is absent.
 fn word<'a>(arguments: &ArgMatches<'a>, name: &str) -> &'a str
     ensures { result.now ≡ word_in (arguments_of arguments.now) name.now }
 {
     arguments.get_str(name).unwrap_or("")
 }
 
-// Returns true if the flag with this name is used.
+// Returns true if the flag with the name `name` is used.
 fn flag(arguments: &ArgMatches, name: &str) -> bool
     ensures { result ≡ flag_in (arguments_of arguments.now) name.now }
 {
@@ -148,21 +150,21 @@ fn style(arguments: &ArgMatches) -> Style
     }
 }
 
-// Returns the number with this name, if it is given.
+// Returns the number with the name `name`, or `None` if the number is not given.
 fn given(arguments: &ArgMatches, name: &str) -> Option<u64>
     ensures { result ≡ given_in (arguments_of arguments.now) name.now }
 {
     arguments.get_one::<u64>(name)
 }
 
-// Returns the number with this name, or 0.
+// Returns the number with the name `name`, or 0 if the number is not given.
 fn number(arguments: &ArgMatches, name: &str) -> u64
     ensures { result ≡ number_in (arguments_of arguments.now) name.now }
 {
     given(arguments, name).unwrap_or(0)
 }
 
-// Returns the options for reading values, with this number for `--only`.
+// Returns the options for reading values, where `only` is the number for `--only`.
 fn choosing(arguments: &ArgMatches, only: Option<u64>) -> ReadOptions
     ensures { result ≡ choosing_in (arguments_of arguments.now) only }
 {
@@ -187,8 +189,8 @@ fn command_sum(arguments: &ArgMatches) -> ReadOptions
     choosing(arguments, given(arguments, "only"))
 }
 
-// Returns the request of `check`: the lines, or a certificate. A certificate of a single value is
-// no request.
+// Returns the request of `check`, which is for lines or for a certificate. A certificate of a
+// single value is no request.
 fn check_request<'a>(
     certified: bool,
     file: &'a str,
@@ -300,7 +302,7 @@ fn request_met<'a>(matches: &ArgMatches<'a>) -> Option<Request<'a>>
     request_by(command, arguments)
 }
 
-// Returns the same request, or `Usage` if there is none.
+// Returns the request of the command that clap found, or `Usage` if there is no request.
 fn request_asked<'a>(matches: &ArgMatches<'a>) -> Result<Request<'a>, ArgumentsError>
     ensures { ReadsAsked matches.now result }
 {
@@ -320,8 +322,8 @@ fn refusal_of(error: &Error) -> ArgumentsError
     }
 }
 
-/// Parses the arguments, without the program's name, to a request. Returns `Usage` if they make no
-/// request, and `Memory` if memory runs out.
+/// Parses the arguments, without the program's name, to a request. Returns `Usage` if the arguments
+/// make no request, and `Memory` if memory runs out.
 pub fn read_arguments<'a>(
     alloc: Global,
     command_line: &'a [String],

@@ -27,16 +27,16 @@ text_of_compat (compats.Header n) = codes "Compat(header, " ++ decimal n ++ code
 abbrev pub IsOrMemory : Exit → Exit → Type 0
 IsOrMemory known exit = (exit ≡ known) ⊎ (exit ≡ out_of_memory)
 
--- The exit reason is that of value `k`, refused for a reason other than out of memory; or memory
--- ran out.
+-- The exit reason states that memory ran out; or value `k` was refused for another reason, and the
+-- exit reason states that refusal.
 abbrev pub IsExitOf : ℕ → ReadRefusal → Exit → Type 0
 IsExitOf k refusal exit =
     (exit ≡ out_of_memory)
     ⊎ ((refusal ≢ refusals.Memory) × (exit ≡ value k (refusal_text refusal)))
 
--- Either the error line was written, if there is one, and the result is its status; or a write
--- failed and the result is `WriteFault`. The line is that of the exit reason, or that of out of
--- memory.
+-- The effect of reporting an exit reason. `output` is the exit reason, or, if memory ran out for
+-- the line, `out_of_memory`. If the error line of `output` is written completely, the result is the
+-- status of `output`. If a write fails, the result is `WriteFault`.
 pub record Reports (exit : Exit) (err : Change ByteState) (status : Status) : Type 0 where
   pub output : Exit
   pub which : (output ≡ exit) ⊎ (output ≡ out_of_memory)

@@ -8,7 +8,7 @@ use itoa::Buffer;
 use marshal_write::write::Compat;
 use std::alloc::{AllocError, Global};
 
-// Returns the text for an item of this kind, with the digits of its number.
+// Returns the text for an item of this kind: the kind, and the digits of the item's number.
 fn digits_compat(alloc: Global, kind: &str, digits: &str) -> Result<String, AllocError>
     ensures { IfOk result
         (λ text. string_bytes text
@@ -17,7 +17,7 @@ fn digits_compat(alloc: Global, kind: &str, digits: &str) -> Result<String, Allo
     format!(in alloc; "Compat({kind}, {digits})")
 }
 
-// Returns the text for an item of this kind, with a signed number.
+// Returns the text for an item of this kind with a signed number.
 fn signed_compat(alloc: Global, kind: &str, number: i64) -> Result<String, AllocError>
     ensures { IfOk result
         (λ text. string_bytes text
@@ -27,7 +27,7 @@ fn signed_compat(alloc: Global, kind: &str, number: i64) -> Result<String, Alloc
     digits_compat(alloc, kind, buffer.format(number))
 }
 
-// Returns the text for an item of this kind, with a size.
+// Returns the text for an item of this kind with an unsigned number, for example a size.
 fn sized_compat(alloc: Global, kind: &str, number: u64) -> Result<String, AllocError>
     ensures { IfOk result
         (λ text. string_bytes text

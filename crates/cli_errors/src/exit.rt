@@ -1,11 +1,9 @@
 //! The error line and the status of an exit reason.
 
-ghost use Rattle.std.specs.Prelude.{◌≡◌, ◌++◌, codes, decimal, IfOk, OnOk, string_bytes};
+ghost use Rattle.std.specs.Prelude.{◌≡◌, ◌++◌, codes, decimal, IfOk, OnOk};
 ghost use Rattle.cli_spec.specs.Outcome.{status_of, exit_text, exit_line, err_line};
 ghost use Rattle.cli_spec.specs.Outcome.{value_text as text_of_value};
 ghost use Rattle.cli_spec.specs.declared.exit.Exit.TheVariants.{Script as script_line};
-ghost use Rattle.cli_spec.specs.declared.exit.Exit.TheVariants.{Text as text_line};
-ghost use Rattle.cli_spec.specs.declared.exit.Exit.TheVariants.{Certificate as certificate_line};
 ghost use Rattle.cli_spec.specs.declared.exit.Exit.TheVariants.{Short as short_input};
 ghost use Rattle.cli_spec.specs.declared.exit.Exit.TheVariants.{Finished as finished};
 ghost use Rattle.base_io.specs.State.{change};
@@ -13,12 +11,12 @@ ghost use Rattle.cli_errors.specs.Exits.{Reports};
 
 use crate::refusal_text::truncated_text;
 use crate::report::report;
-use crate::write::write;
 use base_data::model::Memory;
+use base_data::text::write;
 use base_io::{Failed, Sink};
 use cli_spec::exit::Exit;
 use cli_spec::status::Status;
-use std::alloc::{AllocError, Global};
+use std::alloc::Global;
 
 /// The reason why no more values are read: an exit reason of the run, or a failed write to standard
 /// output.
@@ -75,39 +73,6 @@ fn status(exit: &Exit) -> Status
     }
 }
 
-// Returns the text before a value's fault, with the value's number.
-fn value_prefix(alloc: Global, number: u64) -> Result<String, AllocError>
-    ensures { IfOk result
-        (λ text. string_bytes text ≡ codes "value " ++ decimal number ++ codes ": ") }
-{
-    format!(in alloc; "value {number}: ")
-}
-
-// Returns the text before the fault of a script line, with the line's number.
-fn line_prefix(alloc: Global, number: usize) -> Result<String, AllocError>
-    ensures { IfOk result
-        (λ text. string_bytes text ≡ codes "script line " ++ decimal number ++ codes ": ") }
-{
-    format!(in alloc; "script line {number}: ")
-}
-
-// Returns the text before the fault of an input line, with the line's number.
-fn text_prefix(alloc: Global, number: u64) -> Result<String, AllocError>
-    ensures { IfOk result
-        (λ text. string_bytes text ≡ codes "text line " ++ decimal number ++ codes ": ") }
-{
-    format!(in alloc; "text line {number}: ")
-}
-
-// Returns the text for a certificate line that has a syntax error, with the line's number.
-fn certificate_text(alloc: Global, number: usize) -> Result<String, AllocError>
-    ensures { IfOk result
-        (λ text. string_bytes text
-        ≡ codes "certificate line " ++ decimal number ++ codes ": Syntax") }
-{
-    format!(in alloc; "certificate line {number}: Syntax")
-}
-
 // Appends a prefix and a text.
 fn write_after(line: &mut Vec<u8>, prefix: &[u8], text: &[u8]) -> Result<(), Memory>
     ensures { OnOk result (line.new.items ≡ line.old.items ++ (prefix.now ++ text.now)) }
@@ -125,13 +90,29 @@ fn write_short(line: &mut Vec<u8>, alloc: Global, taken: u64) -> Result<(), Memo
     write(line, split.as_bytes())
 }
 
+// Appends the text of a fault, after a word and the number of the value or line with the fault.
+fn write_numbered(
+    line: &mut Vec<u8>,
+    alloc: Global,
+    word: &[u8],
+    number: u64,
+    fault: &[u8],
+) -> Result<(), Memory>
+    ensures { OnOk result
+        (line.new.items
+        ≡ line.old.items ++ (word.now ++ (decimal number ++ (codes ": " ++ fault.now)))) }
+{
+    let number = format!(in alloc; "{number}: ")?;
+    write(line, word)?;
+    write(line, number.as_bytes())?;
+    write(line, fault)
+}
+
 // Appends the text of a value's fault.
 fn write_value(line: &mut Vec<u8>, alloc: Global, number: u64, text: &[u8]) -> Result<(), Memory>
     ensures { OnOk result (line.new.items ≡ line.old.items ++ text_of_value number text.now) }
 {
-    let prefix = value_prefix(alloc, number)?;
-    write(line, prefix.as_bytes())?;
-    write(line, text)
+    write_numbered(line, alloc, b"value ", number, text)
 }
 
 // Appends the text of the fault of a script line.
@@ -139,33 +120,7 @@ fn write_script(line: &mut Vec<u8>, alloc: Global, number: usize, text: &[u8]) -
     ensures { OnOk result
         (line.new.items ≡ line.old.items ++ exit_text (script_line number text.now)) }
 {
-    let prefix = line_prefix(alloc, number)?;
-    write(line, prefix.as_bytes())?;
-    write(line, text)
-}
-
-// Appends the text of the fault of an input line.
-fn write_text_line(
-    line: &mut Vec<u8>,
-    alloc: Global,
-    number: u64,
-    text: &[u8],
-) -> Result<(), Memory>
-    ensures { OnOk result
-        (line.new.items ≡ line.old.items ++ exit_text (text_line number text.now)) }
-{
-    let prefix = text_prefix(alloc, number)?;
-    write(line, prefix.as_bytes())?;
-    write(line, text)
-}
-
-// Appends the text for a certificate line that has a syntax error.
-fn write_certificate(line: &mut Vec<u8>, alloc: Global, number: usize) -> Result<(), Memory>
-    ensures { OnOk result
-        (line.new.items ≡ line.old.items ++ exit_text (certificate_line number)) }
-{
-    let text = certificate_text(alloc, number)?;
-    write(line, text.as_bytes())
+    write_numbered(line, alloc, b"script line ", number as u64, text)
 }
 
 // Appends the text of an exit reason.
@@ -182,13 +137,25 @@ fn write_text(line: &mut Vec<u8>, alloc: Global, exit: &Exit) -> Result<(), Memo
         Exit::Value(number, text) => write_value(line, alloc, *number, text.as_slice()),
         Exit::Untyped(number, text) => write_value(line, alloc, *number, text.as_slice()),
         Exit::LargeValue(number, text) => write_value(line, alloc, *number, text.as_slice()),
-        Exit::Certificate(number) => write_certificate(line, alloc, *number),
+        Exit::Certificate(number) => write_numbered(
+            line,
+            alloc,
+            b"certificate line ",
+            *number as u64,
+            b"Syntax",
+        ),
         Exit::Uncertified(number, reason) => write_value(line, alloc, *number, reason.as_slice()),
         Exit::SectionsLeft => write(line, b"sections left"),
         Exit::Short(taken) => write_short(line, alloc, *taken),
         Exit::Finished(_) => Ok(()),
         Exit::Script(number, text) => write_script(line, alloc, *number, text.as_slice()),
-        Exit::Text(number, text) => write_text_line(line, alloc, *number, text.as_slice()),
+        Exit::Text(number, text) => write_numbered(
+            line,
+            alloc,
+            b"text line ",
+            *number,
+            text.as_slice(),
+        ),
         Exit::ReadFault => write(line, b"read fault"),
         Exit::TooLong => write(line, b"input too long"),
         Exit::Memory => write(line, b"out of memory"),
@@ -216,9 +183,9 @@ fn line(alloc: Global, exit: &Exit) -> Result<Vec<u8>, Memory>
     }
 }
 
-/// Writes the error line of an exit reason to standard error, if it has one, and returns its
-/// status. If memory runs out for the line, writes `out of memory` and returns that status. If a
-/// write fails, returns `WriteFault`.
+/// Writes the error line of an exit reason to standard error, if the exit reason has a line.
+/// Returns the status of the exit reason. If memory runs out for the line, writes the line `out of
+/// memory` and returns the status for exhausted memory. If a write fails, returns `WriteFault`.
 pub fn report_exit<E: Sink>(alloc: Global, err: &mut E, exit: &Exit) -> Status
     ensures { Reports exit.now (change (E.state err.old) (E.state err.new)) result }
 {

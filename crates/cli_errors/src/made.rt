@@ -13,10 +13,10 @@ ghost use Rattle.cli_errors.specs.Exits.{text_of_compat, IsOrMemory, IsExitOf};
 
 use crate::compat_text::compat_text;
 use crate::refusal_text::{refusal_text, truncated_text};
-use crate::write::write;
 use base_data::model::Memory;
 use base_data::model::list::List;
 use base_data::model::refusal::ReadRefusal;
+use base_data::text::write;
 use cli_spec::exit::Exit;
 use marshal_write::write::Compat;
 use std::alloc::Global;
@@ -84,7 +84,8 @@ pub fn refused_line(alloc: Global, number: usize, text: &[u8]) -> Exit
     }
 }
 
-/// Returns the exit reason for a refused value, with its number.
+/// Returns the exit reason for value `number`, which was refused. If memory ran out for the value
+/// or for the text, returns `Exit::Memory`.
 pub fn refused_value(alloc: Global, number: u64, refusal: ReadRefusal) -> Exit
     ensures { IsExitOf number refusal result }
 {

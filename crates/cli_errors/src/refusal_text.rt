@@ -29,7 +29,7 @@ fn sum_text(which: WordSum) -> &'static str
     }
 }
 
-// Returns a name and the offset.
+// Returns a name and an offset in bytes, as `NAME at OFFSET`.
 fn position_text(alloc: Global, name: &str, position: u64) -> Result<String, AllocError>
     ensures { IfOk result
         (λ text. string_bytes text ≡ name.now ++ codes " at " ++ decimal position) }
@@ -37,7 +37,7 @@ fn position_text(alloc: Global, name: &str, position: u64) -> Result<String, All
     format!(in alloc; "{name} at {position}")
 }
 
-// Returns a name, a number and the offset.
+// Returns a name, a number and an offset in bytes, as `NAME(NUMBER) at OFFSET`.
 fn number_text(alloc: Global, name: &str, number: u64, position: u64) -> Result<String, AllocError>
     ensures { IfOk result
         (λ text. string_bytes text
@@ -46,7 +46,7 @@ fn number_text(alloc: Global, name: &str, number: u64, position: u64) -> Result<
     format!(in alloc; "{name}({number}) at {position}")
 }
 
-// Returns a name, the digits of a number and the offset.
+// Returns a name, the digits of a number and an offset in bytes, as `NAME(DIGITS) at OFFSET`.
 fn digits_text(alloc: Global, name: &str, digits: &str, position: u64) -> Result<String, AllocError>
     ensures { IfOk result
         (λ text. string_bytes text
@@ -55,7 +55,7 @@ fn digits_text(alloc: Global, name: &str, digits: &str, position: u64) -> Result
     format!(in alloc; "{name}({digits}) at {position}")
 }
 
-// Returns a name, a code in hexadecimal and the offset.
+// Returns a name, a code in hexadecimal and an offset in bytes, as `NAME(CODE) at OFFSET`.
 fn code_text(alloc: Global, name: &str, code: u8, position: u64) -> Result<String, AllocError>
     ensures { IfOk result
         (λ text. string_bytes text
@@ -65,7 +65,7 @@ fn code_text(alloc: Global, name: &str, code: u8, position: u64) -> Result<Strin
     digits_text(alloc, name, digits.as_str(), position)
 }
 
-// Returns a name, two numbers and the offset.
+// Returns the text with a name and two numbers.
 fn numbers_text(
     alloc: Global,
     name: &str,

@@ -16,17 +16,17 @@ use Rattle.cli_spec.specs.declared.style.Style.{Style}
 
 -- ---- requests
 
--- The default style: one line, doubles printed as their bits.
+-- The default style: text on one line, doubles printed as their bits.
 abbrev pub plain : Style
 plain = record { pretty = false; decimal = false }
 
--- Reads all of the input under this limit, and reports each value.
+-- The options that read all of the input under the limit `limit`, and report each value.
 abbrev pub all_under : (limit : ℕ) → ReadOptions
 all_under limit = record { limit = limit; skip = 0; only = None }
 
--- The query about a value at a type: whether it has the type, its text, the text of the part at a
--- path, or whether its search trees are valid. If the value does not have the type, the output
--- reports that and the reason.
+-- The query about a value at a type: whether the value has the type, the value's text, the text of
+-- the part at a path, or whether the value's search trees are valid. If the value does not have the
+-- type, the output reports the reason.
 pub data Query : Type 0 where
   the_verdict : Query
   the_text : Style → Query
@@ -63,11 +63,11 @@ pub record AskedType : Type 0 where
 abbrev pub asked_with : List ℕ → (lines decimal : Bool) → AskedType
 asked_with text lines decimal = record { text = text; lines = lines; decimal = decimal }
 
--- TYPE for a command that reads no texts of values: `decimal` is false.
+-- TYPE for a command that reads no texts of values, where `decimal` is false.
 abbrev pub asked_type : List ℕ → Bool → AskedType
 asked_type text lines = asked_with text lines false
 
--- FILE and TYPE, if the command reads values at that type.
+-- FILE and TYPE of a request, or `None` if the command reads no values at a type.
 abbrev pub typed_by : Request → Option (List ℕ × AskedType)
 typed_by (report query file type lines reading) = Some (file, asked_type type lines)
 typed_by (get file type path style lines reading) = Some (file, asked_type type lines)
@@ -77,17 +77,17 @@ typed_by (dump reading) = None
 typed_by (compare reading) = None
 typed_by (own request) = None
 
--- PATH, if the command has one.
+-- PATH of a request, or `None` if the command has no PATH.
 abbrev pub path_of : Request → Option (List ℕ)
 path_of (get file type path style lines reading) = Some path
 path_of request = None
 
--- SCRIPT, if the command has one.
+-- SCRIPT of a request, or `None` if the command has no SCRIPT.
 abbrev pub script_of : Request → Option (List ℕ)
 script_of (edit file type script compat lines decimal reading) = Some script
 script_of request = None
 
--- The options for reading values, if the command reads values; otherwise `all_under 0`.
+-- The options for reading values, or `all_under 0` if the command reads no values.
 abbrev pub reading_of : Request → ReadOptions
 reading_of (report query file type lines reading) = reading
 reading_of (get file type path style lines reading) = reading
@@ -98,12 +98,12 @@ reading_of (own (verify file type certificate lines reading)) = reading
 reading_of (own (certify file type lines reading)) = reading
 reading_of request = all_under 0
 
--- The limit of 64-bit words in a value, if the command reads values.
+-- The limit of 64-bit words in a value, for a command that reads values.
 abbrev pub limit_of : Request → ℕ
 limit_of request = (reading_of request).limit
 
--- The limit of 64-bit words in a value, if the command is `scan`, which searches the input for
--- values.
+-- The limit of 64-bit words in a value for the command `scan`, which searches the input for values.
+-- If the command is not `scan`, the result is `None`.
 abbrev pub searched_by : Request → Option ℕ
 searched_by (own (scan limit)) = Some limit
 searched_by request = None
@@ -153,7 +153,7 @@ usual_limit = codes "134217728"
 abbrev pub greatest_skip : ℕ
 greatest_skip = 2 ^ 48
 
--- The maximum number of a value for `--only`. It is the maximum number of a value in a script.
+-- The maximum number of a value for `--only`, which is the maximum number of a value in a script.
 abbrev pub greatest_only : ℕ
 greatest_only = 2 ^ 63 - 1
 
@@ -183,23 +183,23 @@ decimal_flag = flag (codes "decimal")
 abbrev pub lines_flag : Argument
 lines_flag = flag (codes "lines")
 
--- The style for these two flags.
+-- The style that the flags `--pretty` and `--decimal` select.
 abbrev pub styled_by : (pretty decimal : Bool) → Style
 styled_by pretty decimal = record { pretty = pretty; decimal = decimal }
 
--- The reading options for these three arguments.
+-- The reading options that `--limit`, `--skip` and `--only` select.
 abbrev pub read_by : (limit skip : ℕ) → (only : Option ℕ) → ReadOptions
 read_by limit skip only = record { limit = limit; skip = skip; only = only }
 
--- Prepends `--limit` and `--skip` to other arguments.
+-- Prepends `--limit` and `--skip` to the arguments `more`.
 abbrev pub valued : List Argument → List Argument
 valued more = limit_option ∷ skip_option ∷ more
 
--- Prepends FILE and TYPE to other arguments.
+-- Prepends FILE and TYPE to the arguments `more`.
 abbrev pub file_and_type : List Argument → List Argument
 file_and_type more = wanted (codes "FILE") ∷ wanted (codes "TYPE") ∷ more
 
--- Prepends `--lines`, `--limit`, `--skip`, FILE and TYPE to other arguments.
+-- Prepends `--lines`, `--limit`, `--skip`, FILE and TYPE to the arguments `more`.
 abbrev pub typed : List Argument → List Argument
 typed more = lines_flag ∷ valued (file_and_type more)
 
@@ -210,7 +210,7 @@ greatest_number = 2147483647
 abbrev pub greatest_count : ℕ
 greatest_count = 1000000
 
--- All commands.
+-- The table of all commands, one form for each command.
 abbrev pub forms : List Form
 forms =
     row (codes "check") (cert_flag ∷ only_option ∷ typed [])
@@ -243,7 +243,7 @@ forms =
     ∷ row (codes "scan") (limit_option ∷ []) (λ n. own (scan n))
     ∷ []
 
--- The command with this name.
+-- The command with the name `name`, or `None` if no command has the name.
 abbrev pub form_of : List ℕ → Option Form
 form_of name = find (λ form. bytes_eq form.name name) forms
 
@@ -283,34 +283,34 @@ command_set = record {
 
 -- ---- accepted arguments
 
--- clap reports no error, and parses the arguments as this command with these values.
+-- clap reports no error, and parses the arguments as the command `command` with the values `rows`.
 abbrev pub Accepted : List (List ℕ) → List ℕ → List Row → Type 0
 Accepted command_line command rows =
     (fault_of command_set command_line ≡ [])
     × (subcommand_of command_set command_line ≡ Some (command, rows))
 
--- The argument with this name has this text.
+-- The argument with the name `name` has the text `text`.
 abbrev pub HasWord : List Row → List ℕ → List ℕ → Type 0
 HasWord rows name text = first_of name rows ≡ Some text
 
--- The flag with this name is used if `used` is true. clap represents it by the text `true` or
--- `false`.
+-- The flag with the name `name` is used if and only if `used` is true. clap represents a flag by
+-- the text `true` or `false`.
 abbrev pub HasFlag : List Row → List ℕ → Bool → Type 0
 HasFlag rows name used = HasWord rows name (if used then codes "true" else codes "false")
 
--- The argument with this name is the number `n`, at most `greatest`: decimal digits, optionally
--- after a plus sign.
+-- The argument with the name `name` is the number `n`, at most `greatest`. The text of the number
+-- is decimal digits, optionally after a plus sign.
 abbrev pub HasNumber : List Row → List ℕ → ℕ → ℕ → Type 0
 HasNumber rows name greatest n =
     (text : List ℕ) × (one_of name rows ≡ Some text) × IsNumeral 10 (without_leading_plus text)
     × (digits_value 10 (without_leading_plus text) ≡ n) × (n ≤ greatest)
 
--- The option with this name is not used, or is a number as in `HasNumber`.
+-- The option with the given name is not used, or is a number as in `HasNumber`.
 abbrev pub MayHaveNumber : List Row → List ℕ → ℕ → Option ℕ → Type 0
 MayHaveNumber rows name greatest None = one_of name rows ≡ None
 MayHaveNumber rows name greatest (Some n) = HasNumber rows name greatest n
 
--- All arguments are present, and their values give this request.
+-- All arguments are present, and the values of the arguments give the request.
 abbrev pub HasArguments : (arguments : List Argument) → Asking arguments → List Row → Request
     → Type 0
 HasArguments [] asked rows request = asked ≡ request
@@ -325,13 +325,13 @@ HasArguments (wanted name ∷ rest) asks rows request =
 HasArguments (number name greatest ∷ rest) asks rows request =
     (n : ℕ) × HasNumber rows name greatest n × HasArguments rest (asks n) rows request
 
--- The command with these argument values makes this request.
+-- The command `command` with the argument values `rows` makes the request `request`.
 abbrev pub AsksBy : List ℕ → List Row → Request → Type 0
 AsksBy command rows request =
     (form : Form) × (form_of command ≡ Some form)
     × HasArguments form.arguments form.asks rows request
 
--- clap accepts the arguments, and they parse to this request.
+-- clap accepts the arguments, and the arguments parse to the request `request`.
 unfoldable pub AreReadAs : List (List ℕ) → Request → Type 0
 AreReadAs command_line request =
     (command : List ℕ) × (rows : List Row) × Accepted command_line command rows
@@ -342,7 +342,7 @@ abbrev pub is_whole : Request → Bool
 is_whole (own (certify file type lines reading)) = not (is_some reading.only)
 is_whole request = true
 
--- The arguments make this request. A certificate of a single value cannot be requested.
+-- The arguments make the request `request`. A certificate of a single value cannot be requested.
 unfoldable pub Asks : List (List ℕ) → Request → Type 0
 Asks command_line request = AreReadAs command_line request × (is_whole request ≡ true)
 
@@ -362,7 +362,7 @@ pub data Use : Type 0 where
   alone : (name : List ℕ) → Use
   given : (name text : List ℕ) → Use
 
--- The arguments that a use of an option consists of.
+-- The arguments that make up one use of an option.
 abbrev pub arguments_for : Use → List (List ℕ)
 arguments_for (alone name) = (codes "--" ++ name) ∷ []
 arguments_for (given name text) = (codes "--" ++ name) ∷ text ∷ []
@@ -372,7 +372,8 @@ abbrev pub used_in : Use → List ℕ
 used_in (alone name) = name
 used_in (given name text) = name
 
--- This is a use of this argument: a flag alone, or an option with decimal digits up to its maximum.
+-- The use is one of the given argument: a flag alone, or an option with decimal digits up to its
+-- maximum.
 abbrev pub IsUse : Use → Argument → Type 0
 IsUse (alone name) (flag other) = name ≡ other
 IsUse (given name text) (option other greatest usual) =
@@ -381,29 +382,29 @@ IsUse (given name text) (optional other greatest) =
     (name ≡ other) × IsNumeral 10 text × (digits_value 10 text ≤ greatest)
 IsUse one argument = ⊥
 
--- This is a use of one of the arguments.
+-- The use is one of an argument in the list.
 abbrev pub IsUseAmong : List Argument → Use → Type 0
 IsUseAmong [] one = ⊥
 IsUseAmong (argument ∷ rest) one = IsUse one argument ⊎ IsUseAmong rest one
 
--- Returns true if the option is used.
+-- Returns true if one of the uses is that of the option `name`.
 abbrev pub is_used : List ℕ → List Use → Bool
 is_used name uses = list_any (λ one. bytes_eq (used_in one) name) uses
 
--- All uses are of these arguments, and no option is used twice.
+-- Each use is that of an argument in the list, and no option is used twice.
 abbrev pub ArePlainUses : List Argument → List Use → Type 0
 ArePlainUses arguments [] = Unit {0}
 ArePlainUses arguments (one ∷ more) =
     IsUseAmong arguments one × (is_used (used_in one) more ≡ false) × ArePlainUses arguments more
 
--- The text after the option, if the option is used with a text.
+-- The text after the option `name`, or `None` if no use of the option has a text.
 abbrev pub text_after : List ℕ → List Use → Option (List ℕ)
 text_after name [] = None
 text_after name (alone other ∷ uses) = text_after name uses
 text_after name (given other text ∷ uses) =
     if bytes_eq other name then Some text else text_after name uses
 
--- These uses of options, followed by exactly these positional arguments, make this request.
+-- The given uses of options, followed by exactly the given positional arguments, make the request.
 abbrev pub ArePlainArguments : (arguments : List Argument) → Asking arguments → List Use
     → List (List ℕ) → Request → Type 0
 ArePlainArguments [] asked uses [] request = asked ≡ request
@@ -424,8 +425,8 @@ ArePlainArguments (number name greatest ∷ rest) asks uses (text ∷ texts) req
     IsNumeral 10 text × (digits_value 10 text ≤ greatest)
     × ArePlainArguments rest (asks (digits_value 10 text)) uses texts request
 
--- A command line in plain form and its request. It consists of a command's name, uses of its
--- options, and then its positional arguments.
+-- A command line in plain form and its request. The command line consists of a command's name, uses
+-- of the command's options, and the command's positional arguments.
 abbrev pub ArePlain : List (List ℕ) → Request → Type 0
 ArePlain command_line request =
     (form : Form) × (form_of form.name ≡ Some form)

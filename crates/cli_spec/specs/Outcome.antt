@@ -1,7 +1,7 @@
--- The specification of a run: its stages in order, then an output for each value, and a final
--- output. Each command adds the syntax of its arguments, the files that it opens and its output for
--- a value. It also adds its exit reasons at a value and its final output. The stages, the exit
--- reasons, their error lines and their statuses are defined once, here.
+-- The specification of a run: the stages in order, an output for each value, and a final output.
+-- Each command adds the syntax of its arguments, the files that the command opens, an output for a
+-- value, exit reasons at a value, and a final output. The stages, the exit reasons, their error
+-- lines and their statuses are defined once, in this file.
 use Rattle.std.specs.Prelude.{ℕ, ◌<◌, ◌≡◌, ◌≢◌, ◌↔◌, ◌⊎◌, Bool, true, false, IsTrue, ◌&&◌, not}
 use Rattle.std.specs.Prelude.{nat_lt, if◌then◌else◌, List, [], ◌∷◌, ◌++◌, length, find, Option}
 use Rattle.std.specs.Prelude.{Some, None, Result, Ok, Err, MatchResult, codes, decimal}
@@ -50,16 +50,16 @@ pub record Taken : Type 0 where
   pub bytes : List ℕ
   pub until : InputEnd
 
--- Nothing was read.
+-- The result of a reading that reads no bytes and requests none.
 abbrev pub nothing : Taken
 nothing = record { bytes = []; until = unasked }
 
--- All bytes were read, up to the end.
+-- The result of a reading that reads all bytes up to the end.
 abbrev pub whole : List ℕ → Taken
 whole bytes = record { bytes = bytes; until = at_end }
 
--- The result of fetching a file: its bytes, no such file, a failure, or nothing. It is `unfetched`
--- if the file was not requested or memory ran out.
+-- The result of fetching a file: the file's bytes, no such file, a failure, or nothing. If the file
+-- was not requested or memory ran out, the result is `unfetched`.
 pub data Found : Type 0 where
   opened : Taken → Found
   missing : Found
@@ -67,7 +67,7 @@ pub data Found : Type 0 where
   unfetched : Found
 
 -- The results of fetching FILE and SCRIPT by name. The two files are fetched one after the other,
--- so the same name may give two different results.
+-- and equal names may give two different results.
 pub record Fetches : Type 0 where
   pub file : List ℕ → Found
   pub script : List ℕ → Found
@@ -100,7 +100,7 @@ status_of read_fault = statuses.ReadFault
 status_of too_long = statuses.TooLong
 status_of out_of_memory = statuses.Memory
 
--- The error text for the value with this number.
+-- The error text for the value with the number `number`.
 abbrev pub value_text : ℕ → List ℕ → List ℕ
 value_text number text = codes "value " ++ decimal number ++ codes ": " ++ text
 
@@ -129,20 +129,21 @@ exit_text out_of_memory = codes "out of memory"
 
 -- ---- the end of a run
 
--- A text as a line.
+-- The text followed by a line feed.
 abbrev pub line : List ℕ → List ℕ
 line text = text ++ 10 ∷ []
 
--- A text as a line on standard error.
+-- The text as a line on standard error, after the program's name.
 abbrev pub err_line : List ℕ → List ℕ
 err_line text = codes "omarshal: " ++ line text
 
--- The error line of an exit reason. `finished` has none.
+-- The error line of an exit reason. The exit reason `finished` has no line.
 abbrev pub exit_line : Exit → List ℕ
 exit_line (finished ok) = []
 exit_line exit = err_line (exit_text exit)
 
--- The bytes written to standard output and to standard error, and the exit status.
+-- The ending of a run: the bytes written to standard output and to standard error, and the exit
+-- status.
 pub record Ending : Type 0 where
   pub out : List ℕ
   pub err : List ℕ
@@ -153,7 +154,7 @@ pub record Output : Type 0 where
   pub text : List ℕ
   pub ok : Bool
 
--- Empty output without faults.
+-- The empty output, which reports no fault.
 abbrev pub nothing_output : Output
 nothing_output = record { text = []; ok = true }
 
@@ -168,15 +169,15 @@ pub record Replies : Type 0 where
   pub output : List Output
   pub last : Reply
 
--- Constructs a `Replies`.
+-- The replies that consist of the given outputs and the given final reply.
 abbrev pub replies : List Output → Reply → Replies
 replies output last = record { output = output; last = last }
 
--- A run that ends before the first value.
+-- The replies of a run that ends before the first value.
 abbrev pub stopped : Exit → Replies
 stopped exit = replies [] (exits exit)
 
--- All outputs in order, including that of the final reply.
+-- All outputs in order, including the output of the final reply.
 abbrev pub all_output : Replies → List Output
 all_output all = all.output ++ output_last all.last where
   output_last : Reply → List Output
@@ -188,14 +189,14 @@ abbrev pub texts_of : List Output → List ℕ
 texts_of [] = []
 texts_of (output ∷ rest) = output.text ++ texts_of rest
 
--- No output reports a fault.
+-- Returns true if no output in the list reports a fault.
 abbrev pub all_ok : List Output → Bool
 all_ok [] = true
 all_ok (output ∷ rest) = output.ok && all_ok rest
 
--- The end of a run. Standard output holds the texts of all outputs. If there is an exit reason, it
--- determines the error line and the status. Otherwise the status is `AllOk` if no output reports a
--- fault, and `No` if one does.
+-- The end of a run. Standard output holds the texts of all outputs. If there is an exit reason, the
+-- exit reason determines the error line and the status. If there is no exit reason, the status is
+-- `No` if some output reports a fault, and `AllOk` if none does.
 abbrev pub ending_of : Replies → Ending
 ending_of all = ends all.last where
   ends : Reply → Ending
@@ -213,8 +214,8 @@ ending_of all = ends all.last where
 
 -- ---- stages
 
--- Two stages in sequence. The first passes its result to the second, or ends the run with an exit
--- reason.
+-- Two stages in sequence. The first stage passes its result to the second, or ends the run with an
+-- exit reason.
 abbrev pub Then : {X Y : Type 0} → (Result X Exit → Type 0) → (X → Result Y Exit → Type 0)
     → Result Y Exit → Type 0
 Then {X} first next result =
@@ -287,7 +288,7 @@ pub record Language (D T E : Type 0) : Type 1 where
       → Result (List ℕ) Unedited → Type 0
   pub lines_of : Tree → List ℕ
 
--- Opens and reads FILE, parses its declarations, then parses TYPE.
+-- Opens and reads FILE, parses the declarations of FILE, and parses TYPE.
 abbrev pub ReadsTypeOf : {D T E : Type 0} → Language D T E → (List ℕ → Found) → List ℕ × AskedType
     → Result T Exit → Type 0
 ReadsTypeOf language file typed =
@@ -300,7 +301,7 @@ abbrev pub ReadsPathOf : {D T E : Type 0} → Language D T E → List ℕ → Re
 ReadsPathOf language text (Ok path) = language.ReadsPath text (Some path)
 ReadsPathOf language text (Err exit) = language.ReadsPath text None × (exit ≡ bad_path)
 
--- Opens and reads SCRIPT, then parses its lines.
+-- Opens and reads SCRIPT, and parses the lines of SCRIPT.
 abbrev pub ReadsScriptOf : {D T E : Type 0} → Language D T E → (lines decimal : Bool)
     → (List ℕ → Found) → List ℕ → Result (List E) Exit → Type 0
 ReadsScriptOf language lines decimal script name =
@@ -315,7 +316,7 @@ pub data Work (T E : Type 0) : Type 0 where
   dumps : Work T E
   compares : Work T E
 
--- The operation answers this query for each value at the type.
+-- The operation answers the given query for each value at the type.
 abbrev pub ReportsAt : {D T E : Type 0} → Language D T E → (List ℕ → Found) → List ℕ × AskedType
     → Query → Result (Work T E) Exit → Type 0
 ReportsAt language file typed query result =
@@ -330,8 +331,8 @@ EditsBy language files typed script_name compat result =
     (λ script found. found ≡ Ok (edits type script compat))) result
 
 -- The stage that finds the operation of a request. PATH is parsed before FILE is read, and SCRIPT
--- is read after TYPE. `dump` and `same` read none of these. A command in a command set of its own
--- has no operation here.
+-- is read after TYPE. `dump` and `same` read no PATH, FILE, TYPE or SCRIPT. A command in a command
+-- set of its own has no operation in this definition.
 abbrev pub FindsWork : {D T E : Type 0} → Language D T E → Fetches → Request
     → Result (Work T E) Exit → Type 0
 FindsWork language files (report query name type_text lines reading) result =
@@ -348,7 +349,7 @@ FindsWork language files (own request) result = ⊥
 
 -- ---- all stages before the values
 
--- The operation for the values, and the limit of 64-bit words in each.
+-- The operation for the values, and the limit of 64-bit words in each value.
 pub record Task (T E : Type 0) : Type 0 where
   pub work : Work T E
   pub limit : ℕ
@@ -370,7 +371,7 @@ abbrev pub line_past : {D T E : Type 0} → Language D T E → List E → ℕ �
 line_past language script n = find (λ line. not (nat_lt (language.line_value line) n)) script
 
 -- The output for a value after the values `earlier`. `same` reads two values and has no output for
--- them before the end of the input.
+-- the two values before the end of the input.
 abbrev pub Outputs : {D T E : Type 0} → Language D T E → Work T E → (earlier : List Tree) → Tree
     → Output
     → Type 0
@@ -409,8 +410,9 @@ pub record IsUnedited {D T E : Type 0} (language : Language D T E) (type : T) (s
   pub refused : language.BytesOf type script compat earlier tree (Err why)
   pub exits : exit ≡ unedited_exit (length earlier) why
 
--- After these values the command ends at the bytes `rest`, whatever comes after the part that it
--- reads. `edit` ends at a value that is not edited. `same` ends at any bytes after two values.
+-- After the given values, the command ends at the bytes `rest`, whatever comes after the part that
+-- the command reads. `edit` ends at a value that is not edited. `same` ends at any bytes after two
+-- values.
 abbrev pub ExitsAt : {D T E : Type 0} → Language D T E → Work T E → ℕ → List Tree → List ℕ → Exit
     → Type 0
 ExitsAt language (reports query type) limit trees rest exit = ⊥
@@ -420,22 +422,22 @@ ExitsAt language dumps limit trees rest exit = ⊥
 ExitsAt language compares limit trees rest exit =
     (length trees ≡ 2) × (rest ≢ []) × (exit ≡ not_two_values)
 
--- The values of the two trees are equal: their graphs are isomorphic.
+-- The values of the two trees are equal, which means that their graphs are isomorphic.
 abbrev pub AreSame : Tree → Tree → Type 0
 AreSame first second =
     Isomorphism (objects_of first 0) (root first 0) (objects_of second 0) (root second 0)
 
--- The line for two compared values. `ok` is true if they are the same.
+-- The output line for two compared values, where `ok` is true if the two values are equal.
 abbrev pub comparison : Bool → Output
 comparison true = record { text = line (codes "same"); ok = true }
 comparison false = record { text = line (codes "differ"); ok = false }
 
--- If a script line edits no value of the input, the run ends with that line as its exit reason.
+-- If a script line edits no value of the input, the script line is the exit reason of the run.
 abbrev pub ends_script : {D T E : Type 0} → Language D T E → Option E → Reply
 ends_script language None = outputs nothing_output
 ends_script language (Some line) = exits (script_line (language.line_number line) (codes "NoValue"))
 
--- The command's final reply, if the input ends cleanly after these values.
+-- The command's final reply, if the input ends cleanly after the given values.
 abbrev pub Finishes : {D T E : Type 0} → Language D T E → Work T E → List Tree → Reply → Type 0
 Finishes language (reports query type) trees last = last ≡ outputs nothing_output
 Finishes language (edits type script compat) trees last =
@@ -445,9 +447,10 @@ Finishes language compares (first ∷ second ∷ []) last =
     (agree : Bool) × (IsTrue agree ↔ AreSame first second) × (last ≡ outputs (comparison agree))
 Finishes language compares trees last = last ≡ exits not_two_values
 
--- The final reply after these values. If bytes are refused as a value, the run reads no more and
--- ends with the refusal. In that case no call on the input has failed, and the input is not too
--- long. Otherwise the run continues to read, so the end of the input or its failure decides.
+-- The final reply after the given values. If bytes are refused as a value, the run reads no more
+-- and ends with the refusal. A run that ends with a refusal had no failed call on the input, and
+-- the input is not too long. If no bytes are refused, the end of the input or a failure of the
+-- input decides.
 abbrev pub Closes : {D T E : Type 0} → Language D T E → Work T E → List Tree → InputEnd → End
     → Reply → Type 0
 Closes language work trees at_end clean last = Finishes language work trees last
@@ -466,15 +469,16 @@ Closes language work trees at_length (refused refusal) last = ⊥
 Closes language work trees at_length clean last = last ≡ exits too_long
 Closes language work trees at_length (cut n) last = last ≡ exits too_long
 
--- The bytes begin with the values `trees`, which have the outputs `output`; `rest` follows them.
+-- The bytes begin with the values `trees`, whose outputs are `output`, and `rest` follows the
+-- values.
 pub record PrintFirst {D T E : Type 0} (language : Language D T E) (task : Task T E)
     (bytes : List ℕ)
     (trees : List Tree) (output : List Output) (rest : List ℕ) : Type 0 where
   pub encoded : EncodeAll task.limit bytes trees rest
   pub all_print : AllPrint language task.work [] trees output
 
--- The values and outputs before the final reply, and the reason for that reply: an exit reason of
--- the command, or the end of the values in the input.
+-- The values and outputs before the final reply, and the reason for the final reply: an exit reason
+-- of the command, or the end of the values in the input.
 pub record ValuesReply {D T E : Type 0} (language : Language D T E) (task : Task T E)
     (input : Taken) (all : Replies) : Type 0 where
   pub trees : List Tree
@@ -510,13 +514,13 @@ abbrev pub found_of : Option (List ℕ) → Found
 found_of None = missing
 found_of (Some bytes) = opened (whole bytes)
 
--- Both fetches use the same lookup.
+-- The fetches of FILE and SCRIPT from one lookup by name.
 abbrev pub fetches_of : (List ℕ → Option (List ℕ)) → Fetches
 fetches_of files =
     record { file = λ name. found_of (files name); script = λ name. found_of (files name) }
 
--- The outcome of a run. `files` maps names to bytes. If `files` does not contain FILE or SCRIPT,
--- then that file cannot be opened.
+-- The outcome of a run, where `files` maps names to bytes. If `files` does not contain FILE or
+-- SCRIPT, the missing file cannot be opened.
 abbrev pub Outcome : {D T E : Type 0} → Language D T E → List (List ℕ) → (List ℕ → Option (List ℕ))
     → List ℕ → Replies → Type 0
 Outcome language command_line files bytes =

@@ -28,11 +28,11 @@ use Rattle.base_data.specs.declared.model.refusal.WordSum.TheVariants.{W32, W64}
 abbrev pub hex_digit : ℕ → ℕ
 hex_digit n = slice_index (codes "0123456789abcdef") n
 
--- Two digits.
+-- The two hexadecimal digits of a byte.
 abbrev pub hex_byte : ℕ → List ℕ
 hex_byte n = hex_digit (n / 16) ∷ hex_digit (n % 16) ∷ []
 
--- Eight digits.
+-- The eight hexadecimal digits of a 32-bit word.
 abbrev pub hex_word : ℕ → List ℕ
 hex_word n = flat_map hex_byte (to_be_bytes w32 n)
 
@@ -46,8 +46,8 @@ abbrev pub sum_text : WordSum → List ℕ
 sum_text W32 = codes "w32"
 sum_text W64 = codes "w64"
 
--- The text of a refusal. Out of memory has no text of its own here, because it is not a refusal of
--- the bytes.
+-- The text of a refusal. Out of memory has no text in this definition, because out of memory is not
+-- a refusal of the bytes.
 unfoldable pub refusal_text : ReadRefusal → List ℕ
 refusal_text (BadMagic magic) = codes "BadMagic(" ++ hex_word magic ++ codes ")"
 refusal_text Compressed = codes "Compressed"
@@ -84,7 +84,7 @@ refusal_text (LengthMismatch position left) =
     codes "LengthMismatch(" ++ decimal left ++ codes ") at " ++ decimal position
 refusal_text Memory = []
 
--- The input ended after `taken` bytes of a value.
+-- The text of an input that ended after `taken` bytes of a value.
 abbrev pub truncated_text : ℕ → List ℕ
 truncated_text taken = codes "Truncated(" ++ decimal taken ++ codes ")"
 

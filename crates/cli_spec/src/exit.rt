@@ -3,10 +3,10 @@
 use base_data::model::list::List;
 
 /// Exit reason of a run. A number is that of a value or of a line in a script, certificate or input
-/// text; in `Short` it is the number of bytes of an input that ends before the bytes to skip. A
-/// text is a file name, the text of a fault, or the text of a refusal. `Finished` means that the
-/// run has written all requested output and reads no more; its flag is true if there were no
-/// errors.
+/// text. The number in `Short` is the number of bytes of an input that ends before the bytes to
+/// skip. A text is a file name, the text of a fault, or the text of a refusal. `Finished` means
+/// that the run has written all requested output and reads no more. The flag of `Finished` is true
+/// if there were no errors.
 #[derive(Drop)]
 pub enum Exit {
     Usage,

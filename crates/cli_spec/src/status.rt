@@ -1,9 +1,9 @@
-//! The exit status of the program.
+//! The exit statuses of the program, with their numbers.
 
 ghost use Rattle.std.specs.Prelude.{◌≡◌};
 ghost use Rattle.cli_spec.specs.Status.{code_of};
 
-/// The exit status of the program.
+/// The exit status of the program, one case for each kind of ending.
 #[derive(Clone, Copy)]
 pub enum Status {
     /// The run ended without errors.
@@ -35,7 +35,7 @@ pub enum Status {
 }
 
 impl Status {
-    /// Returns the exit code of the process for this status.
+    /// Returns the exit code of the process for the status.
     pub fn code(self) -> u8
         ensures { result ≡ code_of self }
     {

@@ -1,6 +1,7 @@
-//! Implements `check --cert`: writes a certificate entry for each value of the input, while its
-//! bytes arrive. The entry states the typed pairs of the value (`CertifiesType`) or its first fault
-//! (`CertifiesFault`). The law `declared_certificates_are_one` proves that the entry is unique.
+//! Implements `check --cert`: writes a certificate entry for each value of the input, while the
+//! bytes of the values arrive. The entry states the typed pairs of the value (`CertifiesType`) or
+//! the value's first fault (`CertifiesFault`). The law `declared_certificates_are_one` proves that
+//! the entry is unique.
 
 mod command;
 pub mod laws;

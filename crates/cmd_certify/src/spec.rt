@@ -1,6 +1,7 @@
-//! The specification of the command `check --cert` in the general form of `Commands`: the file that
-//! it requests, the certificate entry that it writes for a value, where the run ends early, and how
-//! it ends. `causes_of_sections` proves the meaning of its exit statuses. The crate contains only
-//! definitions and laws; the command's code is in another crate.
+//! The specification of the command `check --cert` in the general form of `Commands`. The
+//! specification states which file is requested, and which certificate entry is written for a
+//! value. The specification also states where the run ends early, and how the run ends.
+//! `causes_of_sections` proves the meaning of the exit statuses. The module contains only
+//! definitions and laws. The command's code is in `command`.
 
 pub mod laws;

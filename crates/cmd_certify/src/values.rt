@@ -1,3 +1,3 @@
-//! Definitions and lemmas for commands whose items are values: which values have been read so far,
-//! and which output has been written for them, while the bytes of the input arrive. The crate
-//! contains no code.
+//! Definitions and lemmas for commands whose items are values. The definitions state which values
+//! have been read and which output has been written for the values, while the bytes of the input
+//! arrive. The module contains no code.

@@ -1,4 +1,4 @@
--- Two command sets are disjoint: one of them does nothing for each request.
+-- Two command sets are disjoint: for each request, one of the two sets does nothing.
 use Rattle.std.proofs.Common.{◌≡◌, ◌⊎◌, ℕ, List, Some, inl, inr, refl}
 use Rattle.marshal_spec.specs.format.Tree.{Tree}
 use Rattle.cli_spec.specs.CommandLine.{certify, scan, searched_by}
@@ -26,7 +26,7 @@ module _ {D T E : Type 0} (language : Language D T E) where
   made_disjoint (compare most) = inr (gen_spec_idle language (compare most) refl)
   made_disjoint (own request) = inl (values_idle language request)
 
-  -- `build` and this command are disjoint.
+  -- `build` and `gen` are disjoint.
   pub made_disjoint_from_texts :
       {D' T' E' : Type 0} (other : Language D' T' E') (TextOf : T' → List ℕ → Built → Type 0)
       → AreDisjoint (building other TextOf) (gen_spec language)
@@ -187,7 +187,8 @@ module _ {D T E : Type 0} (language : Language D T E) (SectionOf : OutputsSectio
   sections_disjoint_from_made other (compare most) =
       inr (gen_spec_idle other (compare most) refl)
 
--- If commands do nothing for searches, then they are disjoint from `scan`.
+-- If a command set does nothing for each request of `scan`, then the command set and `scan` are
+-- disjoint.
 searches_disjoint :
     {A : Type 0} (c : Commands A) → ((limit : ℕ) → IsIdleAt c (own (scan limit)))
     → AreDisjoint c (searching searched_by)

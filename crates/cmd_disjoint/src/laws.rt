@@ -1,4 +1,4 @@
-//! Lemma functions. They do nothing at run time: the contract of each function is a law.
+//! Lemma functions. A lemma function does nothing at run time: its contract is a law.
 
 ghost use Rattle.cmd_certify.specs.spec.Certification.{certifying};
 ghost use Rattle.run_spec.specs.command_sum.CommandSum.{AreDisjoint};

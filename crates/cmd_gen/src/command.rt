@@ -1,6 +1,6 @@
-//! The command `gen`: builds a value from a number over the built-in item declarations, checks it
-//! at its type, and writes its line. It fetches no file and reads no input. The contract of
-//! `run_gen_spec` states that the run satisfies `Account`.
+//! The command `gen`: generates a value from a number over the built-in item declarations, checks
+//! the value at its type, and writes a line about the value. The command fetches no file and reads
+//! no input. The contract of `run_gen_spec` states that the run satisfies `Account`.
 
 mod line;
 mod making;

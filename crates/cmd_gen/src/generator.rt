@@ -1,6 +1,6 @@
-//! Generates a value from a number, and reports on it: the length and the sum of its bytes, its
-//! objects and its words. `generate` promises the value that the specification `generated` defines.
-//! `generated_line` promises the line for a value. The verdict in that line comes from the caller.
+//! Generates a value from a number, and reports on the value: the length and the sum of its bytes,
+//! its objects and its words. `generate` promises the value that the definition `generated` gives.
+//! `generated_line` promises the line for a value, whose verdict the caller supplies.
 
 mod generated_item;
 mod laws;

@@ -1,8 +1,9 @@
-//! Implements the search of the input for values. The search holds bytes from the first offset at
-//! which a value may still begin. As soon as a byte decides what the held bytes begin with, they
-//! are a stretch, and the lines for it are written. The contract of `search_input` states that the
-//! run satisfies `Account`.
+//! Implements the search of the input for values. The search holds the bytes from the first offset
+//! at which a value may still begin. When a byte decides what the held bytes begin with, the held
+//! bytes are a stretch, and the lines for the stretch are written. The contract of `search_input`
+//! states that the run satisfies `Account`.
 
+mod clear;
 mod last;
 mod run;
 mod search;

@@ -1,7 +1,8 @@
 //! Searches buffered bytes for values: reads part after part, appends a line for each value, and
-//! skips bytes at which no value begins. `sweep` promises the parts that the bytes determine
-//! (`Sweeps`), and returns the reader for the rest. `sweep_all` promises all parts if no more bytes
-//! follow (`SweepsAll`). The definition of parts and lines is in `found`.
+//! skips bytes at which no value begins. The contract of `sweep` states which parts the bytes
+//! determine (`Sweeps`). `sweep` returns the reader that has taken the remaining bytes. The
+//! contract of `sweep_all` states all parts if no more bytes follow (`SweepsAll`). The definition
+//! of parts and lines is in `found`.
 
 mod claim;
 mod kind;
@@ -9,4 +10,5 @@ mod line;
 mod next_part;
 mod parts;
 
+pub use line::write_value;
 pub use parts::{Swept, sweep, sweep_all};

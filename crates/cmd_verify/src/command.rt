@@ -1,7 +1,7 @@
-//! Implements `verify`: checks the values of the input by the entries of a certificate, while their
-//! bytes arrive. If an entry is accepted, the value has the type (`ShowsType`), or has the stated
-//! fault (`ShowsFault`). A missing or rejected entry ends the run. The check of a single entry is
-//! in another crate.
+//! Implements `verify`: checks the values of the input by the entries of a certificate, while the
+//! bytes of the values arrive. If an entry is accepted, the value has the type (`ShowsType`), or
+//! has the stated fault (`ShowsFault`). A missing or rejected entry ends the run. The check of a
+//! single entry is in `cert_verify`.
 
 mod command;
 mod files;

@@ -1,6 +1,6 @@
-//! The implementation of the option `--only`: `OnlyCommand` wraps a command and writes the output
-//! for one item only. It implements `Work` for the commands `only_command`. Therefore each command
-//! that counts its items (`Counts`) has the option without code of its own.
+//! The implementation of the option `--only`. `OnlyCommand` wraps a command, writes the output for
+//! one item only, and implements `Work` for the commands `only_command`. Each command that counts
+//! its items (`Counts`) gets the option from `OnlyCommand`, without code of its own.
 
 mod counts;
 mod only_command;

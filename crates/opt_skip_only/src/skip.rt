@@ -1,6 +1,6 @@
-//! The implementation of the option `--skip`: `SkipCommand` wraps a command and skips the first
-//! bytes of its input. It implements `Work` for the commands `skipping`. Therefore each command
-//! has the option without code of its own.
+//! The implementation of the option `--skip`. `SkipCommand` wraps a command, skips the first bytes
+//! of the input, and implements `Work` for the commands `skipping`. Each command gets the option
+//! from `SkipCommand`, without code of its own.
 
 mod skip_command;
 

@@ -1,6 +1,7 @@
-//! Three small commands as examples of the trait `Work`: one reads no input, one reads lines of
-//! text, and one reads bytes and refuses one of them. They show that these kinds of commands fit
-//! the loop of work. `small_commands_report_environment` proves that they are lawful.
+//! Three small commands as examples of the trait `Work`. One reads no input, one reads lines of
+//! text, and one reads bytes and refuses one of the bytes. The examples show that each of these
+//! kinds of commands fits the loop over the input. `small_commands_report_environment` proves that
+//! the small commands are lawful.
 
 mod bytes;
 mod laws;

@@ -9,4 +9,5 @@ pub mod Account
 pub mod RunSpec
 pub mod Causes
 pub mod CommandLaws
+pub mod RunLaws
 pub mod Example

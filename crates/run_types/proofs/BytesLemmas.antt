@@ -25,7 +25,7 @@ use Rattle.cli_errors.specs.Exits.{text_of_compat, IsOrMemory}
 use Rattle.run_spec.proofs.runs.WriteLemmas.{writes_nothing}
 use Rattle.run_types.specs.Bytes.{WritesBytes}
 
--- The text of what is too large.
+-- The specification's text for an item that is too large equals the text that the program prints.
 compat_known : (large : TooLargeFor32) (compat : Compat) → Reports large compat → compat_text large ≡ text_of_compat compat
 compat_known (token (integer z)) compat is = sym (ap text_of_compat is)
 compat_known (token (block tag size)) compat is = sym (ap text_of_compat is)

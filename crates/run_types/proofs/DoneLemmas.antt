@@ -1,4 +1,4 @@
--- The earlier values after their edits: one more value, and values that no line edits.
+-- The edits of the earlier values: after one more value, and for values that no line edits.
 use Rattle.std.proofs.Common.{◌≡◌, ◌+◌, List, [], ◌∷◌, ◌++◌, length, map, Ok, refl, ap, subst, append_assoc, append-nil, length-append, arith}
 use Rattle.types_spec.specs.types.Equal.{Equal}
 use Rattle.types_spec.specs.types.Names.{names_of}
@@ -10,12 +10,12 @@ use Rattle.edit_values.specs.Grafts.{Other}
 use Rattle.run_types.specs.Language.{TypeOver, lines_of_value, AreDone}
 
 module _ (t : TypeOver) (script : List ScriptLine) where
-  -- The result of the lines for the next value on a tree.
+  -- `made` is the result of the next value's lines on the tree.
   abbrev pub MakeOf : List Other → Tree → Other → Type 0
   MakeOf others tree made =
       AreEdited (shape t.decls) (names_of t.decls) (Equal t.decls) t.type others (lines_of_value (length others) script) (objects_of tree 0) (root tree 0) (Ok made)
 
-  -- There are as many results as values.
+  -- `others` has as many elements as `done` and `trees` together.
   pub done_length : (done : List Other) (trees : List Tree) (others : List Other) → AreDone t script done trees others
       → length others ≡ length done + length trees
   done_length done [] others is = let same = ap (λ (os : List Other). length os) is in omega (arith, same)
@@ -23,7 +23,8 @@ module _ (t : TypeOver) (script : List ScriptLine) where
       let size = length-append done (made ∷ []) in
       let rest = done_length (done ++ made ∷ []) trees others more in omega (arith, size, rest)
 
-  -- One more value.
+  -- Suppose `others` are the edits of `trees`, and `made` is the edit of one more tree. Then
+  -- `others` with `made` are the edits of all trees.
   pub done_more : (done : List Other) (trees : List Tree) (others : List Other) (tree : Tree) (made : Other)
       → AreDone t script done trees others → MakeOf others tree made → AreDone t script done (trees ++ tree ∷ []) (others ++ made ∷ [])
   done_more done [] others tree made is edited =
@@ -31,7 +32,7 @@ module _ (t : TypeOver) (script : List ScriptLine) where
   done_more done (first ∷ trees) others tree made (v, is, more) edited =
       (v, is, done_more (done ++ v ∷ []) trees others tree made more edited)
 
--- If no line edits a value, then it stays as it was read.
+-- A value as it was read, which is the result if no line edits the value.
 abbrev pub as_it_came : Tree → Other
 as_it_came tree = (objects_of tree 0, root tree 0)
 

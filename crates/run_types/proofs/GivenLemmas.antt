@@ -1,5 +1,5 @@
--- A parsed type is sound over well-formed declarations, so a value that has it has each closed
--- instance of it.
+-- A parsed type is sound over well-formed declarations, so a value of the type has each closed
+-- instance of the type.
 use Rattle.std.proofs.Common.{ℕ, Bool, false, List, Ok, Err, refl, sym, subst}
 use Rattle.base_data.specs.declared.model.value.Val.{Val}
 use Rattle.base_data.specs.declared.model.value.Obj.{Obj}
@@ -94,7 +94,7 @@ module _ (r : Prepared) (ready : IsReady r) (graph : List Obj) (v : Val) where
 
 -- ---- positions
 
--- The same type with other settings for positions and decimals.
+-- The type with other settings for positions and decimals.
 abbrev pub asked_at : TypeOver → (lines decimal : Bool) → TypeOver
 asked_at t lines decimal = record { decls = t.decls; type = t.type; lines = lines; decimal = decimal }
 
@@ -102,7 +102,7 @@ pub accepted_at : (decls : List Decl) (asked : AskedType) (t : TypeOver) (lines 
     → IsAccepted decls (asked_with asked.text lines decimal) (asked_at t lines decimal)
 accepted_at decls asked t lines decimal a = record { over = a.over; written = a.written; few = a.few; lined = refl; decimaled = refl }
 
--- The same type without decimals.
+-- The type without decimals, with another setting for positions.
 abbrev pub lined : TypeOver → Bool → TypeOver
 lined t lines = asked_at t lines false
 

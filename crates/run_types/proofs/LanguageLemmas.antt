@@ -93,7 +93,7 @@ module _ (once : (text : List ℕ) → scripts.HasOneScriptAnswer text) (text : 
     back (Err fault) (Err other) e = let same : fault ≡ other = cc e in ap (λ f. Err f) same
 
 module _ (once : (text : List ℕ) → scripts.HasOneScriptAnswer text) (text : List ℕ) where
-  -- A text with decimals also parses in one way.
+  -- A script parses in one way, with decimals or without.
   edits_answers : (decimal : Bool) (answer other : Result (List ScriptLine) ScriptFault) → AreEditsOf decimal text answer → AreEditsOf decimal text other → answer ≡ other
   edits_answers false answer other is its = script_answers once text answer other is its
   edits_answers true answer other (plain, is, given) (second, its, given') =
@@ -115,7 +115,7 @@ module _ (once : (text : List ℕ) → scripts.HasOneScriptAnswer text) (text : 
 
 -- ---- bytes
 
--- A value has one tree, so it has one result.
+-- A value has one tree, so two results of writing the value's bytes are equal.
 one_bytes : (compat : Bool) (graph : List Obj) (v : Val) (answer other : Result (List ℕ) Unedited) → AreBytesOf compat graph v answer → AreBytesOf compat graph v other → answer ≡ other
 one_bytes compat graph v answer other (tree, is, known) (tree', is', known') =
     known ∙ (ap (λ t. bytes_for compat t (too_large_for_32 t)) (one_tree_only graph v tree tree' is is') ∙ sym known')
@@ -185,7 +185,7 @@ module _ (files_once : HasOneAnswer IsFileAnswer) (types_once : (decls : List De
   given_once verdicts_once query t given tree =
       let s = given_sound files_ok types_sound t given in lines_once t s.ok s.sound s.few (objects_of tree 0) (root tree 0) verdicts_once query
 
-  -- The edits of the earlier values have one result.
+  -- Two results of the edits of the earlier values are equal.
   done_once : (t : TypeOver) → AreWellFormed t.decls → IsSoundType t.decls t.type → (few : ReachesFew t.decls t.type)
       → (script : List ScriptLine) (done : List Other) (earlier : List Tree) (others second : List Other)
       → AreDone t script done earlier others → AreDone t script done earlier second → others ≡ second

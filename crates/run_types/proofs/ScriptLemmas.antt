@@ -1,4 +1,4 @@
--- A parsed SCRIPT copies parts of earlier values only, with decimals too.
+-- A parsed SCRIPT copies only parts of earlier values, with decimals or without.
 use Rattle.std.proofs.Common.{◌≡◌, ℕ, Bool, true, false, List, Ok, Err, map, sym, subst}
 use Rattle.text_path.specs.ScriptAnswer.{AreEdits, AreInTime}
 use Rattle.text_path.specs.declared.edits.ScriptLine.{ScriptLine}

@@ -51,7 +51,7 @@ known_refuses (faults.HashClash position one two) tree e = cc e
 known_refuses (faults.FloatInGroup position) tree e = cc e
 known_refuses faults.Memory tree e = cc e
 
--- The exit reason reports the text of the fault.
+-- If the exit reason reports the text of the fault, then it is an exit reason for the fault.
 module _ {Tree : Type 0} (lines : Bool) (text : List ℕ) (positions : ℕ → List ℕ) (same : positions ≡ position_in lines text) (refusal : List ℕ) (exit : Exit) (refused : List ℕ → Exit)
     (is : exit ≡ refused refusal) where
   pub refusal_known : (found : Option (Answer Tree)) → IsTextOf positions found refusal
@@ -59,14 +59,14 @@ module _ {Tree : Type 0} (lines : Bool) (text : List ℕ) (positions : ℕ → L
   refusal_known None none = absurd none
   refusal_known (Some answer) encoded = inl (is ∙ ap refused (encoded ∙ ap (λ known. answer_text known answer) same))
 
--- Or it reports that memory ran out.
+-- If memory ran out, then `out_of_memory` is an exit reason for each fault.
 pub memory_known : {X : Type 0} (found : Option X) (known : X → Exit) → MatchOption found (out_of_memory ≡ out_of_memory) (λ x. IsOrMemory (known x) out_of_memory)
 memory_known None known = refl
 memory_known (Some x) known = inr refl
 
 -- ---- exit reasons
 
--- The text is refused as the fault says, or memory ran out.
+-- The exit reason for a fault reports the refusal, or that memory ran out.
 exits_by : {Tree : Type 0} (positions : ℕ → List ℕ) (fault : DeclFault) (Is : Answer Tree → Type 0) (reports : List ℕ → Exit) (exit : Exit) → IsRefused Is fault
     → MatchOption (known {Tree = Tree} fault) (exit ≡ out_of_memory) (λ answer. IsOrMemory (reports (answer_text positions answer)) exit) → ExitsBy (IsRefusal positions Is) reports exit
 exits_by {Tree} positions fault Is reports exit refused is = at (known fault) refl refused is where
@@ -94,7 +94,7 @@ type_too_many decls asked t written many exit (inl is) =
     inl (codes "TooManyTypes", inr (record { type = t; written = written; many = many; encoded = refl }), is)
 type_too_many decls asked t written many exit (inr memory) = inr memory
 
--- A table is created.
+-- If the type is sound and has a table, then the type with the table is a result of parsing TYPE.
 pub type_given : (decls : List Decl) (asked : AskedType) (t : Ty) (table : Tabled) → AreWellFormed decls → IsTypeOf decls asked.text t → IsSoundType decls t → IsTypeTable decls t table
     → GivesRequested decls asked (Ok (record { decls = decls; ty = t; table = table; lines = asked.lines; decimal = asked.decimal }))
 type_given decls asked t table ok written sound made = (
@@ -142,13 +142,13 @@ module _ (file : List ℕ) (type : AskedType) where
     reads_type e decls declared (Err exit) (inl (refusal, refuses, is)) = inl (Ok taken.bytes, same e, (Ok decls, declared.0, (refusal, refuses, is)))
     reads_type e decls declared (Err exit) (inr memory) = inr memory
 
--- The result keeps the setting for positions.
+-- The parsed type has the setting for positions of the request.
 pub given_lines : (file : List ℕ) (type : AskedType) (found : Found) (r : Prepared) → GivesType file type found (Ok r) → r.lines ≡ type.lines
 given_lines file type found r ((Err exit, fault, e), ready) = absurd (cc e)
 given_lines file type found r ((Ok text, read, (Err exit, refusal, e)), ready) = absurd (cc e)
 given_lines file type found r ((Ok text, read, (Ok decls, declared, is)), ready) = is.lined
 
--- The result keeps the setting for decimals.
+-- The parsed type has the setting for decimals of the request.
 pub given_decimal : (file : List ℕ) (type : AskedType) (found : Found) (r : Prepared) → GivesType file type found (Ok r) → r.decimal ≡ type.decimal
 given_decimal file type found r ((Err exit, fault, e), ready) = absurd (cc e)
 given_decimal file type found r ((Ok text, read, (Err exit, refusal, e)), ready) = absurd (cc e)
@@ -156,7 +156,7 @@ given_decimal file type found r ((Ok text, read, (Ok decls, declared, is)), read
 
 -- ---- PATH
 
--- If there is a fault other than exhausted memory, then the text is no path.
+-- If the fault is not that memory ran out, then the text is no path.
 pub path_refused : (text : List ℕ) (fault : PathFault) → fault ≢ path_faults.Memory → UnlessMemory (λ f. IsAnswer text (Err f)) fault → ReadsPath text None
 path_refused text path_faults.Lex some is = (path_faults.Lex, some, is)
 path_refused text (path_faults.Syntax position) some is = (path_faults.Syntax position, some, is)
@@ -168,7 +168,8 @@ path_refused text path_faults.Memory some is = absurd (some refl)
 abbrev ExitsByLine : (lines decimal : Bool) → List ℕ → Exit → Type 0
 ExitsByLine lines decimal text exit = (refusal : ℕ × List ℕ) × ReadsScript lines decimal text (Err refusal) × (exit ≡ script_line refusal.0 refusal.1)
 
--- If there is a fault other than exhausted memory, then the text is no script.
+-- If the fault is not that memory ran out, then the text is no script. The exit reason reports the
+-- faulty line, or that memory ran out.
 lines_refused : (lines decimal : Bool) (text : List ℕ) (fault : ScriptFault) → UnlessMemoryInScript (λ f. IsAnswerOf decimal text (Err f)) fault → (exit : Exit) → IsScriptExit lines fault exit
     → ExitsByLine lines decimal text exit ⊎ (exit ≡ out_of_memory)
 lines_refused lines decimal text fault refused exit is = at fault refused is where

@@ -30,7 +30,7 @@ module _ (r : Prepared) (ready : IsReady r) where
     pub made : IsMadeFor r.decls r.ty (types_of r.table) (table_of r.table)
     made = record { well = ready.ok; sound = ready.sound; reached = ready.made.reached; made = ready.made.made }
 
-    -- Case: `no` and the first fault are appended.
+    -- If `no` and the text of the verdict's fault are appended, then `WritesNo` holds.
     pub writes_no : TablesHaveTheLeastFault → TextsAreOfTypes → (fault : Fault) → IsVerdictOf r graph root (No fault) → (text : List ℕ)
         → IsFaultText (table_shapes (table_of r.table)) (text_at r.table) graph root 0 fault text → (old new : List ℕ) → new ≡ old ++ (codes "no " ++ text)
         → WritesNo (type_over r) graph root old new
@@ -48,7 +48,7 @@ module _ (r : Prepared) (ready : IsReady r) where
           write,
         )
 
-    -- Case: a line by type numbers is appended.
+    -- If the line of the first fault, by type numbers, is appended, then `WritesNo` holds.
     pub writes_line : TablesHaveTheLeastFault → TextsAreOfTypes → (line : List ℕ) → IsNoLine (table_shapes (table_of r.table)) (text_at r.table) graph root 0 line → (old new : List ℕ) → new ≡ old ++ line
         → WritesNo (type_over r) graph root old new
     writes_line same_faults same_texts line why old new write =
@@ -59,7 +59,8 @@ pub yes_typed : (r : Prepared) (graph : List Obj) (root : Val) (verdict : Verdic
     → HasType (table_shapes (table_of r.table)) graph root 0
 yes_typed r graph root verdict is typing same = let has : IsVerdictOf r graph root (Yes typing) = subst (IsVerdictOf r graph root) same is in has.0
 
--- The value then has the declared type and each closed instance of it.
+-- If the verdict is `Yes`, then the value has the declared type and each closed instance of the
+-- type.
 pub yes_declared : (r : Prepared) (ready : IsReady r) → TheRootIsFirst → TablesDecide → (graph : List Obj) (root : Val) (verdict : Verdict) → IsVerdictOf r graph root verdict → (typing : Typing) → verdict ≡ Yes typing
     → HasType (declared_shapes r.decls) graph root r.ty × HasEachInstance r.decls graph root r.ty
 yes_declared r ready root_first decide graph root verdict is typing same = (has, ready_each r ready graph root has) where

@@ -11,13 +11,14 @@ use Rattle.cli_errors.specs.declared.exit.Error.TheVariants as aborts
 use Rattle.run_types.specs.Checked.{OrMemory}
 use Rattle.run_types.specs.Language.{AreBytesOf}
 
--- Value `k` has no bytes, for the reason that `Answers` gives.
+-- The exit reason states why value `k` has no bytes, and `Answers` allows that reason.
 abbrev pub IsUnedited : ℕ → (Result (List ℕ) Unedited → Type 0) → Exit → Type 0
 IsUnedited k Answers exit =
     (why : Unedited) × Answers (Err why) × (exit ≡ unedited_exit k why)
 
--- The bytes of value `k` are written; or the run ends, and nothing is written; or writing to out
--- failed.
+-- The effect of writing the bytes of value `k`. If the result is `Ok`, all bytes are written. If
+-- the result is an exit reason, nothing is written. If the result is a failed write, only a part of
+-- the bytes is written.
 abbrev pub WritesAnswer : {U : Type 0} → ℕ → (Result (List ℕ) Unedited → Type 0) → Change ByteState
     → Result U Error → Type 0
 WritesAnswer k Answers out (Ok unit) = (bytes : List ℕ) × Answers (Ok bytes) × Writes out bytes

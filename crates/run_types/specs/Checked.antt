@@ -14,7 +14,7 @@ use Rattle.cli_errors.specs.declared.exit.Error.{Error}
 use Rattle.cli_errors.specs.declared.exit.Error.TheVariants as aborts
 use Rattle.run_types.specs.declared.requested.Prepared.{Prepared}
 
--- The run ends for this reason, or because memory ran out.
+-- The exit reason is that memory ran out, or it satisfies `Exits`.
 abbrev pub OrMemory : (Exit → Type 0) → Exit → Type 0
 OrMemory Exits exit = (exit ≡ out_of_memory) ⊎ Exits exit
 
@@ -23,8 +23,9 @@ IsUntypedExit r k graph v exit =
     (text : List ℕ) × IsNoLine (declared_shapes r.decls) type_text graph v r.ty text
     × (¬ HasEachInstance r.decls graph v r.ty) × (exit ≡ untyped_value k text)
 
--- If the result is `Ok`, then value `k` has the type and each closed instance of it. If it is an
--- exit reason, then the value does not have the type.
+-- If the result is `Ok`, then value `k` has the type and each closed instance of the type. If the
+-- result is an exit reason, then memory ran out, or the value does not have the type. The result is
+-- never a failed write.
 abbrev pub ChecksType : {U : Type 0} → Prepared → ℕ → List Obj → Val → Result U Error → Type 0
 ChecksType r k graph v (Ok unit) =
     HasType (declared_shapes r.decls) graph v r.ty × HasEachInstance r.decls graph v r.ty

@@ -12,6 +12,7 @@ fetch_found (Opened gathered) = outcome.opened (taken_of gathered)
 fetch_found Missing = outcome.missing
 fetch_found Failed = outcome.failed
 
--- The file was fetched, with some result, before memory ran out.
+-- The file was fetched with some result. `FetchedSome` is the effect if memory runs out while the
+-- file is read.
 abbrev pub FetchedSome : Change FilesState → List ℕ → Type 0
 FetchedSome files name = (found : outcome.Found) × Fetched files name found

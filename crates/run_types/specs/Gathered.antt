@@ -1,4 +1,4 @@
--- The bytes of a file as consumed bytes of a source.
+-- The bytes of a file, as bytes that were consumed from a source.
 use Rattle.std.specs.Prelude.{◌≡◌}
 use Rattle.cli_spec.specs.Outcome.{Taken, at_end, at_fault, at_length, unasked}
 use Rattle.cli_spec.specs.Outcome as outcome

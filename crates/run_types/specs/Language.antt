@@ -48,9 +48,8 @@ use Rattle.cli_spec.specs.Outcome.{AskedType, Language, Output, Query, the_verdi
 use Rattle.cli_spec.specs.Outcome.{the_part, the_trees, Unedited, untyped, refused_line}
 use Rattle.cli_spec.specs.Outcome.{too_large, line}
 
--- A type over declarations. `lines` says whether positions in refused texts are reported as line
--- and column. `decimal` says whether the texts that are parsed at this type may contain doubles as
--- decimals.
+-- A type over declarations. If `lines` is true, positions in refused texts are reported as line and
+-- column. If `decimal` is true, texts that are parsed at this type may contain doubles as decimals.
 pub record TypeOver : Type 0 where
   pub decls : List Decl
   pub type : Ty
@@ -59,7 +58,7 @@ pub record TypeOver : Type 0 where
 
 -- ---- output lines
 
--- A text in this style: with doubles as decimals and over several lines, if the style requests it.
+-- The text in a style: with doubles as decimals, or over several lines, if the style requests it.
 abbrev pub styled : Style → List ℕ → List ℕ
 styled style text =
     let write = if style.decimal then decimal_text text else text in
@@ -70,12 +69,13 @@ abbrev pub part_or_none : Option (List ℕ) → Output
 part_or_none None = record { text = codes "none"; ok = false }
 part_or_none (Some text) = record { text = text; ok = true }
 
--- The text of the verdict on sets and maps. It is without errors if they are sound.
+-- The output for a verdict on sets and maps: the text of the verdict. The output is without errors
+-- if the verdict is `sound`.
 abbrev pub judged : TreeVerdict → Output
 judged verdict = record { text = verdict_text verdict; ok = is_sound verdict }
 
--- The output for a value that has the type: `yes`, its text, the text of the part at the path, or
--- the verdict on its sets and maps.
+-- The output for a value that has the type, by query: `yes`, the value's text, the text of the part
+-- at the path, or the verdict on the value's sets and maps.
 abbrev pub IsKnownOf : Query → TypeOver → List Obj → Val → Output → Type 0
 IsKnownOf the_verdict t graph v output = output ≡ record { text = codes "yes"; ok = true }
 IsKnownOf (the_text style) t graph v output = output ≡ record {
@@ -89,54 +89,56 @@ IsKnownOf (the_part path style) t graph v output =
 IsKnownOf the_trees t graph v output =
     (verdict : TreeVerdict) × IsVerdictOf t.decls graph v t.type verdict × (output ≡ judged verdict)
 
--- The value has the type and each closed instance of it, and this is the output for it.
+-- The value has the type and each closed instance of the type. `text` and `ok` are the output for
+-- the value.
 pub record IsKnown (query : Query) (t : TypeOver) (graph : List Obj) (v : Val) (text : List ℕ)
     (ok : Bool) : Type 0 where
   pub has : HasType (declared_shapes t.decls) graph v t.type
   pub each : HasEachInstance t.decls graph v t.type
   pub known : IsKnownOf query t graph v (record { text = text; ok = ok })
 
--- The value does not have the type, nor every closed instance of it. The output is the line of the
--- first fault, whatever was requested.
+-- The value does not have the type, nor every closed instance of the type. The output is the line
+-- of the first fault, for each query.
 pub record IsRefuted (t : TypeOver) (graph : List Obj) (v : Val) (text : List ℕ) (ok : Bool)
     : Type 0 where
   pub why : IsNoLine (declared_shapes t.decls) type_text graph v t.type text
   pub some_not : ¬ HasEachInstance t.decls graph v t.type
   pub is_all_ok : ok ≡ false
 
--- The output line of a value at a type, and whether it is without errors.
+-- `text` is the output line of the value at the type. `ok` is true if the line reports no error.
 abbrev pub IsTypeLine : Query → TypeOver → List Obj → Val → List ℕ → Bool → Type 0
 IsTypeLine query t graph v text ok =
     IsKnown query t graph v text ok ⊎ IsRefuted t graph v text ok
 
--- The output line with its line feed.
+-- `text` is the output line of the value at the type, with a line feed. `ok` is true if the line
+-- reports no error.
 abbrev pub OutputsLine : Query → TypeOver → List Obj → Val → List ℕ → Bool → Type 0
 OutputsLine query t graph v text ok =
     (output : List ℕ) × IsTypeLine query t graph v output ok × (text ≡ line output)
 
 -- ---- edits
 
--- The canonical bytes of a tree. If a 32-bit reader must be able to read them, and the tree is too
--- large for it, then the result is what is too large.
+-- The canonical bytes of a tree. If `compat` is true and the tree is too large for a 32-bit reader,
+-- then the result is what is too large.
 abbrev pub bytes_for : Bool → Tree → Option TooLargeFor32 → Result (List ℕ) Unedited
 bytes_for compat tree None = Ok (canon tree)
 bytes_for false tree (Some large) = Ok (canon tree)
 bytes_for true tree (Some large) = Err (too_large (compat_text large))
 
--- The bytes of a value.
+-- The result is the bytes of the value, or what is too large for a 32-bit reader.
 abbrev pub AreBytesOf : Bool → List Obj → Val → Result (List ℕ) Unedited → Type 0
 AreBytesOf compat graph v answer =
     (tree : Tree) × IsTreeOf graph v tree × (answer ≡ bytes_for compat tree (too_large_for_32 tree))
 
--- The bytes of the edited value, or the script line that is refused.
+-- The result for an edited value: the bytes of the value, or the script line that is refused.
 abbrev pub AreBytesAfter : (lines compat : Bool) → Edited Ty → Result (List ℕ) Unedited → Type 0
 AreBytesAfter lines compat (Ok edited) answer = AreBytesOf compat edited.0 edited.1 answer
 AreBytesAfter lines compat (Err refused) answer =
     answer
     ≡ Err (refused_line refused.0 (reason_text type_text (position_on lines refused.0) refused.1))
 
--- The value has the type and each closed instance of it. The result is the bytes of the value after
--- the script lines, which may refer to the earlier values `others`.
+-- The value has the type and each closed instance of the type. The result is the bytes of the value
+-- after the script lines, which may refer to the earlier values `others`.
 pub record IsEdited (t : TypeOver) (others : List Other) (lines : List ScriptLine) (compat : Bool)
     (graph : List Obj) (v : Val) (answer : Result (List ℕ) Unedited) : Type 0 where
   pub has : HasType (declared_shapes t.decls) graph v t.type
@@ -146,7 +148,7 @@ pub record IsEdited (t : TypeOver) (others : List Other) (lines : List ScriptLin
       v edited
   pub bytes : AreBytesAfter t.lines compat edited answer
 
--- The value does not have the type, nor every closed instance of it.
+-- The value does not have the type, nor every closed instance of the type.
 pub record IsUntyped (t : TypeOver) (graph : List Obj) (v : Val) (answer : Result (List ℕ) Unedited)
     : Type 0 where
   pub text : List ℕ
@@ -154,7 +156,8 @@ pub record IsUntyped (t : TypeOver) (graph : List Obj) (v : Val) (answer : Resul
   pub some_not : ¬ HasEachInstance t.decls graph v t.type
   pub is : answer ≡ Err (untyped text)
 
--- The result of script lines on a value at a type, after the earlier values `others`.
+-- The result of script lines on a value at a type. The lines may refer to the earlier values
+-- `others`.
 abbrev pub IsBytesLine : TypeOver → List Other → List ScriptLine → Bool → List Obj → Val
     → Result (List ℕ) Unedited → Type 0
 IsBytesLine t others lines compat graph v answer =
@@ -164,8 +167,8 @@ IsBytesLine t others lines compat graph v answer =
 abbrev pub lines_of_value : ℕ → List ScriptLine → List ScriptLine
 lines_of_value k script = filter (λ line. line.value == k) script
 
--- The values after the ones in `done` are edited one after another, each by its own lines, with the
--- result `others`.
+-- `others` is `done`, followed by the values of `trees` after their edits. Each value is edited by
+-- the script lines for its index.
 abbrev pub AreDone : TypeOver → List ScriptLine → List Other → List Tree → List Other → Type 0
 AreDone t script done [] others = others ≡ done
 AreDone t script done (tree ∷ trees) others =
@@ -174,7 +177,7 @@ AreDone t script done (tree ∷ trees) others =
     (lines_of_value (length done) script) (objects_of tree 0) (root tree 0) (Ok made)
     × AreDone t script (done ++ made ∷ []) trees others
 
--- The result of a script on a value at a type that follows the values `earlier`.
+-- The result of a script on a value at a type, after the values `earlier`.
 abbrev pub AreBytesIn : TypeOver → List ScriptLine → Bool → (earlier : List Tree) → Tree
     → Result (List ℕ) Unedited → Type 0
 AreBytesIn t script compat earlier tree answer =
@@ -184,7 +187,7 @@ AreBytesIn t script compat earlier tree answer =
 
 -- ---- parsing
 
--- The text is that of a parse result which accepts nothing. `known` renders its positions.
+-- The refusal is the text of a parse result that accepts nothing. `known` renders positions.
 pub record IsRefusal {T : Type 0} (known : ℕ → List ℕ) (Is : Answer T → Type 0) (refusal : List ℕ)
     : Type 0 where
   pub answer : Answer T
@@ -210,7 +213,8 @@ pub record IsTooMuch (decls : List Decl) (text refusal : List ℕ) : Type 0 wher
   pub many : ReachesTooMany decls type
   pub encoded : refusal ≡ codes "TooManyTypes"
 
--- The requested text is this type over these declarations, and the type reaches few types.
+-- The requested text denotes the type `t` over these declarations, and the type reaches at most
+-- 65,536 types. `t` has the settings of the request.
 pub record IsAccepted (decls : List Decl) (asked : AskedType) (t : TypeOver) : Type 0 where
   pub over : t.decls ≡ decls
   pub written : IsTypeOf decls asked.text t.type
@@ -224,12 +228,12 @@ ReadsType decls asked (Err refusal) =
     IsRefusal (position_in asked.lines asked.text) (IsTypeAnswer decls asked.text) refusal
     ⊎ IsTooMuch decls asked.text refusal
 
--- The text is this path, or no path.
+-- The text denotes this path, or is no path.
 abbrev pub ReadsPath : List ℕ → Option (List ℕ) → Type 0
 ReadsPath text (Some path) = IsAnswer text (Ok path)
 ReadsPath text None = (fault : PathFault) × (fault ≢ path_faults.Memory) × IsAnswer text (Err fault)
 
--- The faulty line of a script with its text. Running out of memory is no fault.
+-- The line number and the text of a fault in a script. If memory ran out, there is no fault.
 abbrev pub script_refusal : (lines : Bool) → ScriptFault → Option (ℕ × List ℕ)
 script_refusal lines (script_faults.Lex number fault) =
     Some (number, lexer_text (position_on lines number) fault)
@@ -238,13 +242,13 @@ script_refusal lines (script_faults.Syntax number position) =
 script_refusal lines (script_faults.Later number) = Some (number, codes "Later")
 script_refusal lines script_faults.Memory = None
 
--- The edits of a text, or its fault. With decimals, these are the edits of its plain text, with
--- positions in the given lines.
+-- The edits of a script, or the fault of the script. If `decimal` is true, then these are the edits
+-- of the script's plain text, with the positions of the given text.
 abbrev pub AreEditsOf : (decimal : Bool) → List ℕ → Edits → Type 0
 AreEditsOf false text all = AreEdits 1 text all
 AreEditsOf true text all = AreGivenEdits text all
 
--- The text is a script of these lines, or it has this fault.
+-- The text is a script with these lines, or it has this fault.
 abbrev pub ReadsScript : (lines decimal : Bool) → List ℕ → Result (List ScriptLine) (ℕ × List ℕ)
     → Type 0
 ReadsScript lines decimal text (Ok edits) = AreEditsOf decimal text (Ok edits)

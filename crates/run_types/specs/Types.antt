@@ -27,11 +27,11 @@ use Rattle.run_spec.specs.runs.Given.{Fetched}
 use Rattle.run_types.specs.Language.{TypeOver, declared_types, ReadsDeclarations, ReadsType}
 use Rattle.run_types.specs.Language.{AreEditsOf, script_refusal}
 
--- The type over its declarations.
+-- The type of a `Prepared` record, without the table.
 abbrev pub type_over : Prepared → TypeOver
 type_over r = record { decls = r.decls; type = r.ty; lines = r.lines; decimal = r.decimal }
 
--- The type is sound over well-formed declarations, and the table is the type's own.
+-- The type is sound over well-formed declarations, and the table is the table of the type.
 pub record IsReady (r : Prepared) : Type 0 where
   pub ok : AreWellFormed r.decls
   pub sound : IsSoundType r.decls r.ty
@@ -56,13 +56,13 @@ IsTypeExit lines text fault exit =
     MatchOption (known {Tree = Texpr} fault) (exit ≡ out_of_memory)
     (λ answer. IsOrMemory (requested_type (answer_text (position_in lines text) answer)) exit)
 
--- Memory ran out, or the text is no path.
+-- The exit reason for a fault in PATH: that memory ran out, or that the text is no path.
 abbrev pub IsPathExit : PathFault → Exit → Type 0
 IsPathExit fault exit =
     ((fault ≡ path_faults.Memory) × (exit ≡ out_of_memory))
     ⊎ ((fault ≢ path_faults.Memory) × (exit ≡ bad_path))
 
--- Memory ran out, or the exit reason reports the faulty line.
+-- The exit reason for a fault in SCRIPT: that memory ran out, or the faulty line.
 abbrev pub IsScriptExit : (lines : Bool) → ScriptFault → Exit → Type 0
 IsScriptExit lines fault exit =
     MatchOption (script_refusal lines fault) (exit ≡ out_of_memory)
@@ -81,7 +81,8 @@ GivesRequested decls asked (Ok r) = ReadsType decls asked (Ok (type_over r)) × 
 GivesRequested decls asked (Err exit) =
     ExitsBy (λ refusal. ReadsType decls asked (Err refusal)) requested_type exit
 
--- The type, or the exit reason why there is none, or that memory ran out.
+-- The result of reading FILE and TYPE: the type, ready for checks, or an exit reason. The exit
+-- reason is that of a refused text, or that memory ran out.
 abbrev pub GivesType : List ℕ → AskedType → Found → Result Prepared Exit → Type 0
 GivesType file type found (Ok r) =
     ReadsTypeOf declared_types (λ name. found) (file, type) (Ok (type_over r)) × IsReady r
@@ -93,11 +94,12 @@ abbrev pub FindsTypeIn : Change FilesState → List ℕ → AskedType → Result
 FindsTypeIn files file type result =
     (found : Found) × Fetched files file found × GivesType file type found result
 
--- The parse result of the text of a script.
+-- The result of parsing a script's text.
 abbrev pub IsAnswerOf : (decimal : Bool) → List ℕ → Result Script ScriptFault → Type 0
 IsAnswerOf decimal text answer = AreEditsOf decimal text (edits_in answer)
 
--- The lines of the script, or the exit reason why there are none, or that memory ran out.
+-- The result of reading SCRIPT: the script's lines, or an exit reason. The exit reason is that of a
+-- refused text, or that memory ran out.
 abbrev pub GivesScript : (lines decimal : Bool) → List ℕ → Found → Result Script Exit → Type 0
 GivesScript lines decimal name found (Ok script) =
     ReadsScriptOf declared_types lines decimal (λ name. found) name (Ok script.lines)

@@ -1,6 +1,6 @@
 //! Writes the bytes of a value.
 
-ghost use Rattle.std.specs.Prelude.{◌≡◌, Bool, true, false};
+ghost use Rattle.std.specs.Prelude.{◌≡◌, Bool, false};
 ghost use Rattle.base_io.specs.State.{change};
 ghost use Rattle.run_types.specs.Bytes.{WritesBytes};
 
@@ -26,25 +26,9 @@ pub fn write_bytes<K: Sink>(
         (change (K.state out.old) (K.state out.new))
         result }
 {
-    if compat {
-        write_compat(alloc, value, number, out)
-    } else {
-        write_plain(alloc, value, number, out)
+    if !compat {
+        return write_plain(alloc, value, number, out);
     }
-}
-
-// Writes the bytes if a 32-bit reader can read them.
-fn write_compat<K: Sink>(
-    alloc: Global,
-    value: &Rooted<'_>,
-    number: u64,
-    out: &mut K,
-) -> Result<(), Error>
-    ensures { (compat : Bool) → compat ≡ true
-        → WritesBytes compat number value.now.heap.now value.now.root
-        (change (K.state out.old) (K.state out.new))
-        result }
-{
     match write32(alloc, value.heap, value.root, out) {
         Ok(()) => Ok(()),
         Err(Write32Error::Compat(compat)) => {
@@ -55,7 +39,7 @@ fn write_compat<K: Sink>(
     }
 }
 
-/// Writes the canonical bytes of value `number`, whether or not a 32-bit reader can read them.
+/// Writes the canonical bytes of value `number`, whether or not a 32-bit reader can read the bytes.
 /// Fails if memory runs out or if writing fails.
 pub fn write_plain<K: Sink>(
     alloc: Global,

@@ -28,7 +28,7 @@ impl Prints for DeclaredTypes {
 }
 
 /// Proves that the language is lawful: each text parses in one way, and each value has one output
-/// at a type. This is a lemma function.
+/// at a type. `declared_types_are_lawful` is a lemma function, which does nothing at run time.
 pub fn declared_types_are_lawful()
     ensures { IsLawful declared_types }
 {

@@ -1,22 +1,27 @@
-//! Fetches and reads FILE, TYPE and SCRIPT, and finds the verdict on a value at the type that they
-//! give.
+//! Fetches and reads FILE, TYPE and SCRIPT, and finds the verdict on a value at the type that FILE
+//! and TYPE denote.
 //!
-//! It owns `Requested`: a sound type over well-formed declarations with its table (`TypeTable`),
-//! ready for checks; and the language `declared_types`, which defines what these texts mean in
-//! OCaml's words.
+//! The crate owns `Requested`: a sound type over well-formed declarations with its table
+//! (`TypeTable`), ready for checks. The crate also owns the language `declared_types`, which
+//! defines what FILE, TYPE, PATH and SCRIPT mean.
 //!
-//! Promises: `find_type` fetches FILE, and returns the requested type, or the exit reason that the
-//! specification gives. `find_script` does so for SCRIPT. `Requested::holds`: the table is the
-//! table of the type, and the type is sound (`IsReady`). `find_verdict` returns if the value has
-//! the type, and the least fault otherwise. `write_no` appends `no` and the least fault.
-//! `write_near_no` appends it if a small value has the fault near its root; otherwise it appends
-//! nothing. `write_missed_no` appends it for a mismatch found without a heap. `write_bytes` writes
-//! the canonical bytes of a value. `declared_types_are_lawful`: texts are read in one way, and
-//! each value has one line at a type.
+//! Promises:
 //!
-//! Leaves out: the commands (`session`, and the command crates such as `cmd_build`), the check and
-//! the writer (`check_heap`, `marshal_write`), and reading texts and certificates (`cmd_build`,
-//! `cmd_verify`).
+//! - `find_type` fetches FILE, and returns the requested type or the exit reason of the
+//!   specification.
+//! - `find_script` fetches SCRIPT, and returns the script or the exit reason of the specification.
+//! - `Requested::holds`: the table is the table of the type, and the type is sound (`IsReady`).
+//! - `find_verdict` returns `Yes` if the value has the type, and otherwise the least fault.
+//! - `write_no` appends `no` and the least fault. If a small value has the fault near its root,
+//!   `write_near_no` does so too; otherwise `write_near_no` appends nothing.
+//! - `write_missed_no` appends `no` and a mismatch that was found without a heap.
+//! - `write_bytes` writes the canonical bytes of a value.
+//! - `declared_types_are_lawful`: each text parses in one way, and each value has one line at a
+//!   type.
+//!
+//! Leaves out: the commands (`session`, and the command crates, for example `cmd_build`), and the
+//! check and the writer (`check_heap`, `marshal_write`). The parsers of texts and certificates are
+//! in `cmd_build` and `cmd_verify`.
 #![tactic(auto)]
 
 mod bytes;
@@ -34,4 +39,4 @@ pub use fetch::{Fetch, fetch_file};
 pub use gather::{Gathered, InputEnd, LENGTH_LIMIT, store};
 pub use requested::{Prepared, Requested};
 pub use types::{find_script, find_type, path_exit, read_gathered};
-pub use verdict::{find_verdict, write_missed_no, write_near_no, write_no};
+pub use verdict::{find_fault, find_verdict, write_missed_no, write_near_no, write_no};

@@ -9,8 +9,8 @@ use types_spec::types::decl::Decl;
 use types_spec::types::ty::Ty;
 use types_table::type_table::TypeTable;
 
-/// A type over declarations with its table. `lines` says whether positions in refused texts are
-/// reported as line and column. `decimal` says whether the texts that are parsed at this type may
+/// A type over declarations with its table. If `lines` is true, positions in refused texts are
+/// reported as line and column. If `decimal` is true, texts that are parsed at this type may
 /// contain doubles as decimals.
 #[derive(Drop)]
 pub struct Prepared {
@@ -21,8 +21,8 @@ pub struct Prepared {
     pub decimal: bool,
 }
 
-/// A type that is sound over well-formed declarations, with its own table (`IsReady`). Its model is
-/// the `Prepared` record.
+/// A type that is sound over well-formed declarations, with the type's own table (`IsReady`). The
+/// model is the `Prepared` record.
 #[derive(Drop)]
 pub struct Requested {
     of: Prepared,
@@ -53,8 +53,8 @@ impl Requested {
         Requested { of }
     }
 
-    /// Proves the invariant of the requested type. This is a lemma method: it does nothing at run
-    /// time.
+    /// Proves the invariant of the requested type. `holds` is a lemma method, which does nothing at
+    /// run time.
     #[inline(always)]
     pub fn holds(&self)
         ensures { IsReady self.now }

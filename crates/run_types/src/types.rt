@@ -113,7 +113,7 @@ fn read_declarations(alloc: Global, text: &[u8], lines: bool) -> Result<List<Dec
     }
 }
 
-// Parses the type over the declarations and creates its table.
+// Parses the type over the declarations and creates the table of the type.
 fn read_requested(
     alloc: Global,
     decls: List<Decl>,
@@ -141,8 +141,8 @@ fn read_requested(
     }
 }
 
-/// Parses declarations that were read from a file, and the type over them. Fails with the exit
-/// reason if a text is refused, if the file was not read to its end, or if memory runs out.
+/// Parses declarations that were read from a file, and a type over the declarations. If a text is
+/// refused, if the file was not read to its end, or if memory runs out, fails with the exit reason.
 pub fn read_gathered(
     alloc: Global,
     gathered: &Gathered,
@@ -165,8 +165,8 @@ pub fn read_gathered(
     }
 }
 
-/// Fetches FILE, and parses it and TYPE. Fails with the exit reason if the file cannot be read, if
-/// a text is refused, or if memory runs out.
+/// Fetches FILE, and parses FILE and TYPE. If the file cannot be read, if a text is refused, or if
+/// memory runs out, fails with the exit reason.
 pub fn find_type<O: Opener>(
     alloc: Global,
     files: &mut O,
@@ -186,7 +186,7 @@ pub fn find_type<O: Opener>(
     }
 }
 
-// Parses the text of a script. If `decimal` is true, then it may contain doubles as decimals.
+// Parses the text of a script. If `decimal` is true, then the text may contain doubles as decimals.
 fn read_edits(alloc: Global, text: &[u8], decimal: bool) -> Result<Script, ScriptFault>
     ensures script { IfOk result (λ script. IsAnswerOf decimal text.now (Ok script)) }
     ensures fault { IfErr result
@@ -220,8 +220,8 @@ fn read_lines(
     }
 }
 
-/// Fetches SCRIPT and parses it. Fails with the exit reason if the file cannot be read, if the text
-/// is refused, or if memory runs out.
+/// Fetches and parses SCRIPT. If the file cannot be read, if the text is refused, or if memory runs
+/// out, fails with the exit reason.
 pub fn find_script<O: Opener>(
     alloc: Global,
     files: &mut O,

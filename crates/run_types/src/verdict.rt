@@ -10,19 +10,19 @@ ghost use Rattle.check_heap.specs.declared.check.verdict.Verdict.TheVariants.{No
 
 use crate::requested::Requested;
 use base_data::model::Memory;
+use base_data::text::write;
 use check_fault::laws::texts_are_of_types;
 use check_fault::{find_near, write_fault, write_missed, write_near};
-use check_heap::check::{Steps, Verdict, check};
+use check_heap::check::{Steps, Verdict, check, check_mismatched};
 use check_stream::search::{FoundMismatch, found_has_line};
-use cli_errors::write::write;
 use marshal_heap::heap::Rooted;
 use std::alloc::Global;
 use types_spec::types::fault::Fault;
 use types_theory::equality::table::tables_have_the_faults;
 use types_theory::table::tables_decide;
 
-/// Checks whether the value has the type. Returns the first fault if it does not. Fails with
-/// `Memory` if memory runs out.
+/// Checks whether the value has the type. If the value does not have the type, the verdict states
+/// its first fault. Fails with `Memory` if memory runs out.
 pub fn find_verdict(
     alloc: Global,
     value: &Rooted<'_>,
@@ -32,6 +32,18 @@ pub fn find_verdict(
 {
     let mut steps = Steps::new();
     check(alloc, value.heap, value.root, requested.table(), &mut steps)
+}
+
+/// As `find_verdict`, faster if the value has a type mismatch.
+pub fn find_fault(
+    alloc: Global,
+    value: &Rooted<'_>,
+    requested: &Requested,
+) -> Result<Verdict, Memory>
+    ensures { IfOk result (IsVerdictOf requested.now value.now.heap.now value.now.root) }
+{
+    let mut steps = Steps::new();
+    check_mismatched(alloc, value.heap, value.root, requested.table(), &mut steps)
 }
 
 /// Appends `no` and the first fault. Fails with `Memory` if memory runs out.
@@ -56,9 +68,9 @@ pub fn write_no(
     Ok(())
 }
 
-/// Fast path for faults near the root of small values. Appends `no` and the first fault and returns
-/// true if there is such a fault; otherwise appends nothing and returns false. Fails with `Memory`
-/// if memory runs out.
+/// Fast path for faults near the root of small values. If a fault is found, appends `no` and the
+/// value's first fault, and returns true. If not, appends nothing and returns false. Fails with
+/// `Memory` if memory runs out.
 pub fn write_near_no(
     text: &mut Vec<u8>,
     alloc: Global,

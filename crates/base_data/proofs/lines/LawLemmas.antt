@@ -1,5 +1,5 @@
--- Line and column determine a position: between two positions of one line there is no line feed, so
--- their distance is the difference of their columns.
+-- Line and column determine a position. Between two positions of one line there is no line feed,
+-- and therefore the distance of the positions is the difference of their columns.
 use Rattle.std.proofs.Common.{ℕ, ◌+◌, ◌-◌, ◌≤◌, ◌<◌, ◌≡◌, ◌∙◌, Bool, true, false, not, cond, List, ◌++◌, length, take, drop, inl, inr, refl, sym, ap, arith, get_or, leb}
 use Rattle.std.specs.Prelude.{◌⊎◌, reverse}
 use Rattle.std.specs.List.{count_by, prefix_len, suffix_len}
@@ -19,7 +19,7 @@ uncounted : (t : Bool) → cond t 1 0 ≤ 0 → not t ≡ true
 uncounted true few = absurd (omega (arith, few))
 uncounted false few = refl
 
--- If bytes have no line feed, then no byte among them ends a line.
+-- If bytes contain no line feed, then none of the bytes ends a line.
 all_go_on : (bytes : List ℕ) → count_by is_feed bytes ≡ 0
     → suffix_len goes_on bytes ≡ length bytes
 all_go_on bytes none = suffix_len_is goes_on bytes 0 0 (omega arith) each first ∙ whole where
@@ -35,7 +35,8 @@ all_go_on bytes none = suffix_len_is goes_on bytes 0 0 (omega arith) each first 
   first : 0 < 0 → goes_on (get_or bytes (0 - 1) 0) ≡ false
   first never = absurd (omega (arith, never))
 
--- If bytes have no line feed, then they move the column by their number.
+-- If bytes without a line feed are appended to a text, then the column grows by the number of
+-- bytes.
 column_more : (before bytes : List ℕ) → count_by is_feed bytes ≡ 0
     → suffix_len goes_on (before ++ bytes) ≡ length bytes + suffix_len goes_on before
 column_more before bytes none =
@@ -49,7 +50,8 @@ column_more before bytes none =
     ∙ ap (λ n. n + prefix_len goes_on (reverse before)) (length-reverse bytes)))
 
 module _ (text : List ℕ) where
-  -- The law for two positions in ascending order.
+  -- If two positions in ascending order have equal lines and equal columns, then the positions are
+  -- equal.
   later : (position other : ℕ) → position ≤ other → other ≤ length text
       → line_of text position ≡ line_of text other → column_of text position ≡ column_of text other
       → position ≡ other

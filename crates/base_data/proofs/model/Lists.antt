@@ -20,7 +20,8 @@ pub slice_get-last :
 slice_get-last [] y = refl
 slice_get-last (x ∷ xs) y = slice_get-last xs y
 
--- An index beyond the first of two lists reads from the second list.
+-- If an index is the length of `xs` plus `i`, then reading `xs ++ ys` at the index gives element
+-- `i` of `ys`.
 pub slice_get-append_right :
     {X : Type 0} (xs ys : List X) (i : ℕ) → slice_get (xs ++ ys) (length xs + i) ≡ slice_get ys i
 slice_get-append_right [] ys i = ap (slice_get ys) (omega arith)
@@ -28,7 +29,8 @@ slice_get-append_right (x ∷ xs) ys i =
     let e : suc (length xs) + i ≡ suc (length xs + i) = omega arith in
     rw e (slice_get-append_right xs ys i)
 
--- If a list is extended by one element, then an element of the result is an old one or the new one.
+-- If a list is extended by one element, then each element of the result is an old element or the
+-- new element.
 pub slice_get-push_cases :
     {X : Type 0} (xs : List X) (y : X) (k : ℕ) (x : X) → slice_get (xs ++ y ∷ []) k ≡ Some x
     → (slice_get xs k ≡ Some x) ⊎ ((k ≡ length xs) × (y ≡ x))
@@ -53,7 +55,7 @@ slice_index-zeros zero k = refl
 slice_index-zeros (suc n) zero = refl
 slice_index-zeros (suc n) (suc k) = slice_index-zeros n k
 
--- If `get_or` reads below the length, then the list has that element at the index.
+-- If `get_or` reads an element below the length of a list, then `slice_get` reads the element too.
 pub slice_get-read :
     {X : Type 0} (xs : List X) (i : ℕ) (x : X) → i < length xs → x ≡ get_or xs i x
     → slice_get xs i ≡ Some x
@@ -123,7 +125,8 @@ AllZip-length R [] (y ∷ ys) all = absurd all
 AllZip-length R (x ∷ xs) [] all = absurd all
 AllZip-length R (x ∷ xs) (y ∷ ys) all = ap suc (AllZip-length R xs ys all.1)
 
--- If two related lists are each extended by related elements, then the results are related.
+-- If two related lists are each extended by one of two related elements, then the extended lists
+-- are related.
 pub AllZip-push :
     {A B : Type 0} (R : A → B → Type 0) (xs : List A) (ys : List B) (x : A) (y : B) → AllZip R xs ys
     → R x y → AllZip R (xs ++ x ∷ []) (ys ++ y ∷ [])

@@ -1,5 +1,4 @@
--- Lemmas on numbers that bytes encode: of a concatenation, of a prefix and a suffix, and their
--- bounds.
+-- Lemmas on the numbers that bytes encode: concatenations, prefixes, suffixes, and bounds.
 use Rattle.std.proofs.Common.{◌≡◌, ℕ, zero, suc, ◌+◌, ◌-◌, ◌*◌, ◌%◌, ◌^◌, ◌<◌, ◌≤◌, List, [], ◌∷◌, ◌++◌, length, get_or, take, drop, Fits, w8, refl, pos, negsuc, arith, ◌⊎◌, ⊎_elim, inl, inr}
 use Rattle.std.proofs.Math.Nat.{pow-suc, mul-le-mul_right, pow-le-pow_right}
 use Rattle.std.proofs.lemmas.Nat.{pow-add, one_shl}
@@ -19,14 +18,16 @@ pub number-append : (xs ys : List ℕ) → number (xs ++ ys) ≡ number xs * 256
 number-append [] ys = omega arith
 number-append (x ∷ xs) ys = rw (length-append xs ys, number-append xs ys, pow-add 256 (length xs) (length ys)) (omega arith)
 
--- The numbers of the prefix of `i` + 1 bytes and of the suffix from `i`, by those of one byte less.
+-- The number of a prefix of `i` + 1 bytes is the number of the prefix of `i` bytes times 256, plus
+-- byte `i`.
 pub number_more : (bytes : List ℕ) (i : ℕ) → i < length bytes → number (take (i + 1) bytes) ≡ number (take i bytes) * 256 + get_or bytes i 0
 number_more bytes i h = rw (take_more bytes i 0 h, number-append (take i bytes) (get_or bytes i 0 ∷ [])) (omega arith)
 
 pub little_number_more : (bytes : List ℕ) (i : ℕ) → i < length bytes → little_number (drop i bytes) ≡ little_number (drop (i + 1) bytes) * 256 + get_or bytes i 0
 little_number_more bytes i h = rw (drop_more bytes i 0 h) (omega arith)
 
--- `n` bytes encode a number below 256 ^ `n`.
+-- If a digit is below 256 and a number is below `power`, then the digit before the number gives a
+-- number below `power` * 256.
 digit_below : (x n power : ℕ) → x < 256 → n < power → x * power + n < power * 256
 digit_below x n power digit rest = omega (arith, mul-le-mul_right power digit)
 
@@ -43,7 +44,7 @@ little_number_below (x ∷ xs) h =
     let rest = little_number_below xs (All-tail (λ b. b < 256) x xs h) in
     rw (pow-suc 256 (length xs)) (omega arith)
 
--- At most `k` bytes encode a number below 256 ^ `k`.
+-- If `n` is at most `k`, then 256 ^ `n` is at most 256 ^ `k`.
 power_le : (n k : ℕ) → n ≤ k → 256 ^ n ≤ 256 ^ k
 power_le n k h = let positive : 0 < 256 = omega arith in pow-le-pow_right positive h
 
@@ -73,14 +74,14 @@ little_number_step bytes i are_bytes some inside few =
 
 -- ---- two's complement
 
--- Half as many numbers as `n` bytes encode.
+-- For `n` + 1 bytes, 2 to the power of the number of bits minus 1 is half of 256 ^ (`n` + 1).
 pub half_of : (n : ℕ) → 2 ^ (8 * suc n - 1) * 2 ≡ 256 ^ suc n
 half_of zero = refl
 half_of (suc n) =
     let e : 8 * suc (suc n) - 1 ≡ (8 * suc n - 1) + 8 = omega arith in
     rw (e, pow-add 2 (8 * suc n - 1) 8, pow-suc 256 (suc n)) (omega (arith, half_of n))
 
--- The shift in the code is that half.
+-- The shift in the code of `signed` gives half of 256 ^ `n`.
 pub half_shifted : (n : ℕ) → 1 ≤ n → n ≤ 8 → (1 * 2 ^ (8 * n - 1)) % 2 ^ 64 * 2 ≡ 256 ^ n
 half_shifted zero some few = absurd (omega arith)
 half_shifted (suc n) some few =

@@ -3,14 +3,15 @@ use Rattle.std.specs.Prelude.{ℕ, ◌+◌, ◌≤◌, ◌≡◌, List, length, 
 use Rattle.std.specs.List.{count_by}
 use Rattle.base_data.specs.lines.Lines.{is_feed, line_of, column_of}
 
--- No two positions of a text have the same line and column.
+-- If two positions of a text have equal lines and equal columns, then the positions are equal.
 abbrev pub LinesReportPositions : Type 0
 LinesReportPositions =
     (text : List ℕ) (position other : ℕ) → position ≤ length text → other ≤ length text
     → line_of text position ≡ line_of text other → column_of text position ≡ column_of text other
     → position ≡ other
 
--- If no line feed precedes a position, then its line is 1 and its column is the position plus 1.
+-- If no line feed precedes a position, then the position's line is 1 and its column is the position
+-- plus 1.
 abbrev pub FirstLinesCount : Type 0
 FirstLinesCount =
     (text : List ℕ) (position : ℕ) → position ≤ length text

@@ -7,12 +7,12 @@ use Rattle.std.specs.Prelude.{negsuc}
 abbrev pub AreBytes : List ℕ → Type 0
 AreBytes bytes = All (λ b. b < 256) bytes
 
--- The number in big endian: each byte counts 256 to the power of the number of bytes after it.
+-- The number in big endian: each byte counts 256 to the power of the number of following bytes.
 abbrev pub number : List ℕ → ℕ
 number [] = 0
 number (b ∷ bytes) = b * 256 ^ length bytes + number bytes
 
--- The number in little endian: the bytes after the first count 256 times as much.
+-- The number in little endian: the bytes after the first byte count 256 times as much.
 abbrev pub little_number : List ℕ → ℕ
 little_number [] = 0
 little_number (b ∷ bytes) = b + 256 * little_number bytes
@@ -21,15 +21,16 @@ abbrev pub number_in : Bool → List ℕ → ℕ
 number_in true bytes = little_number bytes
 number_in false bytes = number bytes
 
--- `n` in two's complement, if there are `m` numbers: the upper half is negative.
+-- The integer that `n` encodes in two's complement with `m` codes. The upper half of the codes is
+-- negative.
 abbrev pub twos_complement : ℕ → ℕ → ℤ
 twos_complement m n = if nat_lt (2 * n) m then pos n else negsuc (m - suc n)
 
--- The integer in big endian and two's complement.
+-- The integer that the bytes encode in big endian and two's complement.
 abbrev pub signed : List ℕ → ℤ
 signed bytes = twos_complement (256 ^ length bytes) (number bytes)
 
--- The bytes encode the doubles, with eight bytes for each.
+-- The bytes encode the list of doubles, with eight bytes for each double.
 abbrev pub EncodesDoubles : Bool → List ℕ → List ℕ → Type 0
 EncodesDoubles little [] bytes = bytes ≡ []
 EncodesDoubles little (d ∷ ds) bytes =

@@ -10,7 +10,7 @@ pub struct LineColumn {
     pub column: usize,
 }
 
-/// Returns the line and column of the position right after these bytes.
+/// Returns the line and column of the position directly after the bytes `before`.
 fn spot_after(before: &[u8]) -> LineColumn
     ensures line { result.line ≡ line_after before.now }
     ensures column { result.column ≡ column_after before.now }
@@ -28,8 +28,8 @@ fn spot_after(before: &[u8]) -> LineColumn
     LineColumn { line, column }
 }
 
-/// Returns the line and column of a byte of a text. If `position` is beyond the end, returns those
-/// of the end.
+/// Returns the line and column of a byte of a text. If `position` is beyond the end of the text,
+/// returns the line and column of the end.
 pub fn spot_of(text: &[u8], position: usize) -> LineColumn
     ensures line { result.line ≡ line_of text.now position }
     ensures column { result.column ≡ column_of text.now position }

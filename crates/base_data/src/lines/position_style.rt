@@ -13,15 +13,15 @@ use itoa::Buffer;
 pub enum PositionStyle<'a> {
     /// By the index of the byte, from 0.
     Bytes,
-    /// By line and column in this text.
+    /// By line and column in the given text.
     Text(&'a [u8]),
-    /// By the column and this line number. The text is the one line.
+    /// By the given line number and a column, for a text that is a single line.
     Line(u64),
 }
 
 impl<'a> PositionStyle<'a> {
-    /// Returns the way to print positions of a text: by line and column if `lines` is true,
-    /// otherwise by byte index.
+    /// Returns the way to print positions of a text. If `lines` is true, positions are printed by
+    /// line and column, and if `lines` is false, by byte index.
     pub fn of_text(lines: bool, text: &'a [u8]) -> PositionStyle<'a>
         ensures { reported_by result ≡ position_in lines text.now }
     {
@@ -32,8 +32,8 @@ impl<'a> PositionStyle<'a> {
         }
     }
 
-    /// Returns the way to print positions in the line with this number: by line and column if
-    /// `lines` is true, otherwise by byte index.
+    /// Returns the way to print positions in line `number`. If `lines` is true, positions are
+    /// printed by line and column, and if `lines` is false, by byte index.
     pub fn of_line(lines: bool, number: u64) -> PositionStyle<'a>
         ensures { reported_by result ≡ position_on lines number }
     {

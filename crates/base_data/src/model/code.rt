@@ -1,31 +1,33 @@
 //! Kinds of tokens and of custom blocks (`intext.h`). The first byte of a token is its code, and
 //! the code determines the kind.
 
-/// The kind of a token, by its code. If the code contains the value itself, then the number of a
-/// variant is this value. Otherwise it is the width in bytes of the number, header word or length
-/// that follows the code. A `bool` is true for little endian, except in `Custom`.
+/// The kind of a token, which the token's code determines. If the code contains the value, then the
+/// number of a variant is the value. If the code does not contain the value, then the number is the
+/// width in bytes of what follows the code: a number, a header word or a length. A `bool` is true
+/// for little endian, except in `Custom`.
 #[derive(Clone, Copy)]
 pub enum CodeKind {
     /// A block or an atom whose tag and size are bits of the code.
     SmallBlock(u8, u8),
-    /// An integer from 0 to 63, which is the low six bits of the code.
+    /// An integer from 0 to 63, encoded in the low six bits of the code.
     SmallInt(u8),
-    /// A string of up to 31 bytes, whose length is the low five bits of the code.
+    /// A string of up to 31 bytes, whose length is encoded in the low five bits of the code.
     SmallString(u8),
-    /// A signed integer: its width in bytes.
+    /// A signed integer, with the width of the integer in bytes.
     Int(u8),
-    /// A reference: the width of its offset in bytes.
+    /// A reference, with the width of the reference's offset in bytes.
     Shared(u8),
-    /// A block or an atom: the width of its header word in bytes.
+    /// A block or an atom, with the width of the header word in bytes.
     Block(u8),
-    /// A string: the width of its length in bytes.
+    /// A string, with the width of the string's length in bytes.
     Str(u8),
-    /// A double of eight bytes.
+    /// A double of eight bytes. The `bool` is true for little endian.
     Double(bool),
-    /// An array of doubles: the width of its length in bytes.
+    /// An array of doubles, with the width of the array's length in bytes. The `bool` is true for
+    /// little endian.
     Doubles(u8, bool),
-    /// A custom block of fixed length, whose identifier follows. The `bool` is true for the code
-    /// that old runtimes wrote.
+    /// A custom block of fixed length, whose identifier follows the code. The `bool` is true for
+    /// the code that old runtimes wrote.
     Custom(bool),
 }
 
@@ -53,8 +55,8 @@ pub enum Custom {
     Native(i64),
 }
 
-/// The size of an object. For a block it is the number of fields, for a string the number of bytes,
-/// and for a double array the number of elements. For a custom block it is the size of the data in
+/// The size of an object: for a block the number of fields, for a string the number of bytes, and
+/// for a double array the number of elements. The size of a custom block is the size of its data in
 /// bytes, on 32 and on 64 bits.
 #[derive(Clone, Copy)]
 pub enum Measure {

@@ -51,7 +51,7 @@ impl<T> List<T> {
         self.items.as_slice()
     }
 
-    /// Appends one item. If it returns `Memory`, the list is unchanged.
+    /// Appends one item. If `push` returns `Memory`, the list is unchanged.
     pub fn push(&mut self, item: T) -> Result<(), Memory>
     where
         T: Drop,

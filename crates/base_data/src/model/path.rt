@@ -1,12 +1,13 @@
 //! A path into a value: the field numbers from the root to a part.
 
 ghost use Rattle.std.specs.Prelude.{◌≡◌, ◌<◌, ◌++◌, ◌∷◌, [], length, slice_index, OnOk, OnErr};
-ghost use Rattle.std.specs.Prelude.{IfOk, codes, decimal};
+ghost use Rattle.std.specs.Prelude.{IfOk};
 ghost use Rattle.base_data.specs.model.PathText.{path_text};
 
 use crate::model::Memory;
 use crate::model::list::List;
-use std::alloc::{AllocError, Global};
+use crate::text::write_path;
+use std::alloc::Global;
 use std::marker::Model;
 
 /// A list of field numbers, beginning at the root.
@@ -48,7 +49,7 @@ impl Path {
         self.steps[i]
     }
 
-    /// Appends one step. If it returns `Memory`, the path is unchanged.
+    /// Appends one step. If `push` returns `Memory`, the path is unchanged.
     pub fn push(&mut self, step: u64) -> Result<(), Memory>
         ensures ok { OnOk result (self.new ≡ self.old ++ step ∷ []) }
         ensures err { OnErr result (self.new ≡ self.old) }
@@ -59,34 +60,24 @@ impl Path {
         }
     }
 
-    /// Returns the path's text: `.` for the root, otherwise `.` and the number for each step.
+    /// Returns a copy of the path.
+    pub fn copied(&self, alloc: Global) -> Result<Path, Memory>
+        ensures { IfOk result (λ copy. copy ≡ self.now) }
+    {
+        let mut copy = Path::new(alloc);
+        for i in 0..self.len() {
+            copy.push(self.step(i))?;
+        }
+        Ok(copy)
+    }
+
+    /// Returns the path's text: `.` for the root. For another path, the text has `.` and the number
+    /// of each step.
     pub fn text(&self, alloc: Global) -> Result<List<u8>, Memory>
         ensures { IfOk result (λ text. text ≡ path_text self.now) }
     {
-        match steps_text(alloc, self.steps.as_slice()) {
-            Ok(text) => Ok(List::of(text)),
-            Err(_) => Err(Memory),
-        }
+        let mut text = Vec::new(alloc);
+        write_path(&mut text, self)?;
+        Ok(List::of(text))
     }
-}
-
-fn steps_text(alloc: Global, steps: &[u64]) -> Result<Vec<u8>, AllocError>
-    ensures { IfOk result (λ text. text.items ≡ path_text steps.now) }
-{
-    if steps.is_empty() {
-        return Vec::from_slice(alloc, b".");
-    }
-    let mut text = Vec::new(alloc);
-    for step in steps {
-        write_step(&mut text, alloc, *step)?;
-    }
-    Ok(text)
-}
-
-fn write_step(text: &mut Vec<u8>, alloc: Global, step: u64) -> Result<(), AllocError>
-    ensures { OnOk result (text.new.items ≡ text.old.items ++ codes "." ++ decimal step) }
-{
-    let number = step.to_string(alloc)?;
-    text.extend_from_slice(b".")?;
-    text.extend_from_slice(number.as_bytes())
 }

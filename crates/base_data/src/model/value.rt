@@ -2,7 +2,8 @@
 
 use crate::model::list::List;
 
-/// A value: an integer of 63 bits, an atom by its tag, or a reference by the object's number.
+/// A value: an integer of 63 bits, an atom given by a tag, or a reference given by an object's
+/// number.
 #[derive(Clone, Copy, Debug, PartialEq, Eq)]
 pub enum Val {
     Int(i64),

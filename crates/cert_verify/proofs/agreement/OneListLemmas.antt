@@ -25,7 +25,8 @@ in_taken (suc n) (y ∷ xs) (suc k) x less at = in_taken n xs k x (omega (arith,
 
 -- ---- lists without repetitions
 
--- If repetitions are removed from a list, then the result begins with that of each prefix.
+-- If repetitions are removed from a list, then the result begins with the result for each prefix of
+-- the list.
 prefix_left :
     (xs ys seen others : List Ty) → IsWithoutRepeats seen (xs ++ ys) others
     → (left : List Ty) × (rest : List Ty) × (others ≡ left ++ rest) × IsWithoutRepeats seen xs left
@@ -47,7 +48,7 @@ left_once (x ∷ xs) seen one other (inr (new, rest, is, h)) (inl (again, k)) = 
 left_once (x ∷ xs) seen one other (inr (new, rest, is, h)) (inr (new', rest', is', k)) =
     is ∙ (ap (λ r. x ∷ r) (left_once xs (seen ++ x ∷ []) rest rest' h k) ∙ sym is')
 
--- Types that were seen are removed.
+-- If repetitions are removed from a list, then the result contains no type that was seen before.
 left_new :
     (xs seen left : List Ty) → IsWithoutRepeats seen xs left → (u : Ty) → Contains left u
     → Contains seen u → ⊥
@@ -61,7 +62,7 @@ left_new (x ∷ xs) seen left (inr (new, rest, is, h)) u has old =
       by (inl here) never = new (subst (Contains seen) (sym here) old)
       by (inr later) never = never later
 
--- The result has no type twice.
+-- If repetitions are removed from a list, then the result has no type twice.
 left_apart :
     (xs seen left : List Ty) → IsWithoutRepeats seen xs left → (i j : ℕ) (u : Ty)
     → slice_get left i ≡ Some u → slice_get left j ≡ Some u → i ≡ j
@@ -90,12 +91,12 @@ left_apart (x ∷ xs) seen left (inr (new, rest, is, h)) i j u at_i at_j =
 -- ---- the types that a type reaches
 
 module _ (decls : List Decl) (t : Ty) where
-  -- The types that the first `n` of them reach.
+  -- The type itself, and the types that the first `n` types reach.
   abbrev reach : ℕ → List Ty → List Ty
   reach n types = t ∷ flat_map (reached_from decls) (take n types)
 
   module _ (types : List Ty) (reached : IsReached decls t types) where
-    -- Each type has one position.
+    -- Each type of the list has one position.
     pub one_position :
         (i j : ℕ) (u : Ty) → slice_get types i ≡ Some u → slice_get types j ≡ Some u → i ≡ j
     one_position = left_apart (t ∷ flat_map (reached_from decls) types) [] types reached.in_order
@@ -116,7 +117,8 @@ module _ (decls : List Decl) (t : Ty) where
               ap (flat_map (reached_from decls)) (sym (take-append-drop n types))
               ∙ flat_map-append (reached_from decls) (take n types) (drop n types)
 
-    -- If the first `n` types reach no others, then there are no others.
+    -- Suppose the type itself and the types that the first `n` types reach are at most `n` types.
+    -- Then the list has at most `n` types.
     no_more : (n : ℕ) (f : Prefix n) → length f.0 ≤ n → length types ≤ n
     no_more n f few = by (cases_lt n (length types)) where
       has : (u : Ty) → Contains (reach n types) u → Contains f.0 u

@@ -1,4 +1,4 @@
--- The list of the pairs that paths reach is the same for every table of a type.
+-- The pairs that paths reach are one list for all tables of a type.
 use Rattle.std.proofs.Common.{ℕ, ◌≡◌, ◌∙◌, List, Option, Some, None, refl, sym, ap, ap₂, subst}
 use Rattle.std.specs.Prelude.{slice_get, Contains}
 use Rattle.base_data.specs.declared.model.value.Val.{Val}
@@ -28,7 +28,7 @@ module _ (decls : List Decl) (types : List Ty) (table other : Table)
   abbrev At : Table → List ℕ → Option (Val × ℕ)
   At by path = value_at (table_shapes by) graph root 0 path
 
-  -- A path leads to one value and type.
+  -- A path leads to one value and type, for each of two tables.
   one_at :
       (x y : Option (Val × ℕ)) (z : Option (Val × Ty))
       → SamePosition (table_shapes table) (declared_shapes decls) Of graph x z
@@ -55,7 +55,8 @@ module _ (decls : List Decl) (types : List Ty) (table other : Table)
   back : (i j : ℕ) → (table_shapes other).equal i j → (table_shapes table).equal i j
   back = equal_too decls types other table again made apart graph
 
-  -- If pairs are in the order of a certificate entry for one table, then they are for the other.
+  -- If pairs are in the order of a certificate entry for one table, then they are in that order for
+  -- the other table.
   normal_too : (pairs : List (ℕ × ℕ)) → AreNormal other pairs → AreNormal table pairs
   normal_too pairs h = record {
     increasing = h.increasing;

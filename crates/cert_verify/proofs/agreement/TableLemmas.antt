@@ -29,7 +29,7 @@ use Rattle.cert_verify.proofs.certificate.VerifiedLemmas.{one_answer}
 use Rattle.cert_verify.specs.agreement.Agree.{IsAnswerAt}
 use Rattle.cert_verify.proofs.agreement.OneListLemmas.{one_position, one_list}
 
--- The type itself comes first.
+-- The list of the types that a type reaches begins with the type itself.
 pub first_is :
     (decls : List Decl) (t : Ty) (types : List Ty) → IsReached decls t types
     → slice_get types 0 ≡ Some t

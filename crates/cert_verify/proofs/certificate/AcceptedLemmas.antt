@@ -1,5 +1,5 @@
--- If two lists of pairs have the same objects at the same classes, then both are accepted or
--- neither is. If pairs are accepted for a value, then the value has the type.
+-- If two lists of pairs have the same objects at equal types, and one list is accepted, then the
+-- other list is accepted. If pairs are accepted for a value, then the value has the type.
 use Rattle.std.proofs.Common.{ℕ, ◌≡◌, ⊎_elim, inl, List, ◌∷◌, Some, subst}
 use Rattle.base_data.proofs.model.Options.{Contains-first, Contains-later, Contains-cases, IsSomeAnd-weaker}
 use Rattle.base_data.specs.declared.model.value.Val.{Val}
@@ -15,7 +15,7 @@ use Rattle.cert_verify.specs.certificate.Normal.{AreTheSame}
 
 module _ {T : Type 0} (shapes : Shapes T) (lawful : AreLawful shapes Everything) (graph : List Obj) where
   module _ (pairs others : List (ℕ × T)) (same : AreTheSame shapes pairs others) where
-    -- If the pairs hold a value, then the others hold it at each equal type.
+    -- If a list of pairs holds a value, then the other list holds the value at each equal type.
     held_by_others : (v : Val) (t u : T) → shapes.equal t u → IsHeld shapes graph pairs v t → IsHeld shapes graph others v u
     held_by_others (vals.Int z) t u equal held = record { fits = lawful.fits graph (vals.Int z) t u (inl tt) equal held.fits; listed = tt }
     held_by_others (vals.Atom tag) t u equal held = record { fits = lawful.fits graph (vals.Atom tag) t u (inl tt) equal held.fits; listed = tt }
@@ -46,7 +46,8 @@ module _ {T : Type 0} (shapes : Shapes T) (lawful : AreLawful shapes Everything)
     accepted_too root t accepted =
         record { typing = typing_of_others accepted.typing; held = held_by_others root t t (lawful.reflexive t tt) accepted.held }
 
-  -- If the pairs hold one more pair, then adding it changes nothing.
+  -- If a list of pairs includes an object at an equal type, then adding the pair leaves the same
+  -- objects at equal types.
   same_with_held : (pairs : List (ℕ × T)) (o : ℕ) (t : T) → IsListed shapes pairs (vals.Ref o) t → AreTheSame shapes pairs ((o, t) ∷ pairs)
   same_with_held pairs o t listed = record {
     there = λ p u among. (u, Contains-later (o, t) pairs (p, u) among, lawful.reflexive u tt);

@@ -1,4 +1,4 @@
--- The pairs of one object, even if there are many.
+-- The pairs of one object, of which there may be many.
 use Rattle.std.proofs.Common.{ℕ, ◌<◌, ◌≤◌, ◌+◌, ◌-◌, ◌%◌, ◌≡◌, ◌∙◌, ◌⊎◌, ⊎_elim, inl, inr, Bool, true, false, cond, List, length, Some, refl, sym, ap, subst, arith}
 use Rattle.std.specs.Prelude.{Contains, slice_get, IsTrue, ◌↔◌, ◌==◌, not}
 use Rattle.std.proofs.lemmas.Bool.Decides.{Decides-eqb}
@@ -22,7 +22,7 @@ use Rattle.cert_format.specs.Increasing.{AreIncreasing}
 use Rattle.check_heap.proofs.scan.SetLemmas.{same_pair, cond_true, cond_kept}
 use Rattle.cert_verify.specs.certificate.Testing.{IsStart, IsPassing, IsSame, pair_cmp, AreCrowded, is_in, IsFrequent, IsAmongAt, IsElsewhere, IsSettled, StandsAt}
 
--- The test decides if two numbers differ.
+-- The test `not (a == b)` decides whether two numbers differ.
 pub differ : (a b : ℕ) → IsTrue (not (a == b)) ↔ (¬ (a ≡ b))
 differ a b = by_test (a == b) refl where
   by_test : (t : Bool) → (a == b) ≡ t → IsTrue (not (a == b)) ↔ (¬ (a ≡ b))
@@ -40,7 +40,7 @@ here true other is = refl
 here false other is = absurd (false≢true is)
 
 module _ (table : Table) (pairs : List (ℕ × ℕ)) where
-  -- If a pair is not preceded by 16 pairs of its object, then nothing is inserted.
+  -- If a pair is not preceded by 16 pairs of its object, then the set needs no new element.
   pub frequent_same :
       (i o t : ℕ) (has : ℕ → ℕ → Type 0) → AreCrowded table pairs i has → slice_get pairs i ≡ Some (o, t)
       → ((s : ℕ) → ¬ (slice_get pairs (i - 16) ≡ Some (o, s))) → AreCrowded table pairs (i + 1) has
@@ -100,7 +100,8 @@ module _ (table : Table) (pairs : List (ℕ × ℕ)) where
     not_larger j k o p s t less at_j at_k = ⊎_elim (λ smaller. omega (arith, smaller)) (λ same. let e = same.0 in omega (arith, e))
         (increasing j k (o, s) (p, t) less at_j at_k)
 
-    -- If the first 16 pairs were inspected, then the set decides for the others.
+    -- If the first 16 pairs of an object were inspected, then the set decides for the object's
+    -- other pairs.
     pub frequent_reports :
         (frequent : BTreeSet (ℕ × ℕ)) (object ty class start at : ℕ) (test : Bool) → IsFrequent table pairs frequent → slice_get table.classes ty ≡ Some class
         → IsStart pairs object start → IsPassing pairs object at (λ u. IsSame table u ty) → (at < length pairs → start + 16 ≤ at)
@@ -133,7 +134,7 @@ module _ (table : Table) (pairs : List (ℕ × ℕ)) where
 
     -- ---- at an unequal type
 
-    -- The pair before decides.
+    -- If the pair before pair `i` has the same object, then the type of the pair before decides.
     pub known_before :
         (i object ty before its class : ℕ) (test : Bool) → slice_get pairs i ≡ Some (object, ty) → 0 < i → slice_get pairs (i - 1) ≡ Some (object, before)
         → IsSettled table pairs i → slice_get table.classes before ≡ Some its → slice_get table.classes ty ≡ Some class → (IsTrue test ↔ (¬ (its ≡ class)))
@@ -146,7 +147,8 @@ module _ (table : Table) (pairs : List (ℕ × ℕ)) where
       equal : its ≡ class → (table_shapes table).equal before ty
       equal same = its_is ∙ (ap Some same ∙ sym class_is)
 
-    -- If the pair before is of another object, then the pairs up to this one are at equal types.
+    -- If the pair before pair `i` has another object, then the object's pairs up to pair `i` are at
+    -- equal types.
     pub passing_from :
         (i object ty : ℕ) → slice_get pairs i ≡ Some (object, ty) → ((s : ℕ) → 0 < i → ¬ (slice_get pairs (i - 1) ≡ Some (object, s)))
         → IsPassing pairs object (i + 1) (λ u. ¬ IsSame table ty u)
@@ -185,7 +187,8 @@ module _ (table : Table) (graph : List Obj) (pairs : List (ℕ × ℕ)) (t : ℕ
     listed (vals.Atom tag) same = tt
     listed (vals.Ref o) same = absurd (odd (omega (arith, same)))
 
-  -- If the value is an object and fits, then the pairs decide if it is held.
+  -- Suppose the value is a reference and fits. Then it is held if and only if its object is among
+  -- the pairs at an equal type.
   pub object_held :
       (word o : ℕ) (test : Bool) → IsGraph graph → IsValue (length graph) v → word ≡ word_of graph v → o < length graph → word ≡ word_of graph (vals.Ref o)
       → (table_shapes table).fits graph v t → (IsTrue test ↔ IsAmongAt table pairs o t) → IsTrue test ↔ IsHeld (table_shapes table) graph pairs v t
@@ -196,7 +199,8 @@ module _ (table : Table) (graph : List Obj) (pairs : List (ℕ × ℕ)) (t : ℕ
     same : v ≡ vals.Ref o
     same = word_of-inj graph v (vals.Ref o) graph' valid inside (sym is ∙ named)
 
-  -- If the value is an object that is at an equal type, and fits, then it is held.
+  -- If the value is a reference that fits, and some pair has its object at an equal type, then the
+  -- value is held.
   pub stands_held :
       (word : ℕ) → IsGraph graph → IsValue (length graph) v → word ≡ word_of graph v → (table_shapes table).fits graph v t
       → StandsAt table graph pairs word t → IsHeld (table_shapes table) graph pairs v t

@@ -1,4 +1,4 @@
--- The answer of the verification, from what it found for each pair.
+-- The answer of the verification follows from what was found for each pair.
 use Rattle.std.proofs.Common.{ℕ, ◌≡◌, ◌<◌, ◌≤◌, ◌+◌, ⊎_elim, inl, inr, List, [], ◌∷◌, length, refl, sym, ap, subst, arith}
 use Rattle.std.specs.Prelude.{Contains, slice_get, IsSomeAnd}
 use Rattle.std.proofs.lemmas.Option.{slice_get_within}
@@ -23,13 +23,14 @@ use Rattle.cert_verify.specs.certificate.Testing.{AreAllThere, IsRight, IsRightA
 
 -- ---- positions of faults
 
--- The position of a later pair is not before that of an earlier one.
+-- The position of a fault of a later pair is not before the position of a fault of an earlier pair.
 later_pair : (i k c d c' d' : ℕ) → i < k → IsLexicallyBefore (1 ∷ k ∷ c ∷ d ∷ []) (1 ∷ i ∷ c' ∷ d' ∷ []) → ⊥
 later_pair i k c d c' d' more (inl less) = omega (arith, less)
 later_pair i k c d c' d' more (inr (one, inl less)) = omega (arith, more, less)
 later_pair i k c d c' d' more (inr (one, inr (same, rest))) = omega (arith, more, same)
 
--- A position in a later round is not before one in an earlier round.
+-- The position of a fault in a later round is not before the position of a fault in an earlier
+-- round.
 later_round : (a b c d a' b' c' d' : ℕ) → a' < a → IsLexicallyBefore (a ∷ b ∷ c ∷ d ∷ []) (a' ∷ b' ∷ c' ∷ d' ∷ []) → ⊥
 later_round a b c d a' b' c' d' more (inl less) = omega (arith, more, less)
 later_round a b c d a' b' c' d' more (inr (same, rest)) = omega (arith, more, same)
@@ -82,7 +83,7 @@ module _ (table : Table) (graph : List Obj) (root : Val) (pairs : List (ℕ × �
   there_not_out : (i : ℕ) → AreAllThere table graph pairs → IsSomeAnd (slice_get pairs i) (λ pair. ¬ IsThere table graph pair) → ⊥
   there_not_out i there out = let p = IsSomeAnd-some (slice_get pairs i) (λ pair. ¬ IsThere table graph pair) out in p.2 (there i p.0 p.1)
 
-  -- One more pair.
+  -- If the first `i` pairs and pair `i` are right, then the first `i + 1` pairs are right.
   pub right_more : (i : ℕ) → AreRight table graph pairs i → IsRightAt table graph pairs i → AreRight table graph pairs (i + 1)
   right_more i right own k less = ⊎_elim
       (λ before. right k before)

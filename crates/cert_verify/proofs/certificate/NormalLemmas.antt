@@ -1,5 +1,5 @@
--- Among the lists of pairs with the same objects at the same classes, at most one is in the order
--- of an entry.
+-- Of the lists of pairs with the same objects at equal types, at most one is in the order of an
+-- entry.
 use Rattle.std.proofs.Common.{ℕ, suc, ◌≡◌, ◌∙◌, ⊎_elim, inl, inr, List, [], ◌∷◌, Some, refl, sym, ap, subst, arith}
 use Rattle.std.specs.Prelude.{Contains, slice_get}
 use Rattle.base_data.proofs.model.Options.{Contains-first, Contains-later, Contains-none, Contains-cases}
@@ -13,7 +13,7 @@ use Rattle.cert_verify.specs.certificate.Normal.{IsLeast, AreNormal, AreTheSame}
 tail_increases : (pair : ℕ × ℕ) (pairs : List (ℕ × ℕ)) → AreIncreasing (pair ∷ pairs) → AreIncreasing pairs
 tail_increases pair pairs increasing j k one other less at_j at_k = increasing (suc j) (suc k) one other (omega arith) at_j at_k
 
--- The index of an element of a list.
+-- Each element of a list has an index.
 position_of : (pairs : List (ℕ × ℕ)) (pair : ℕ × ℕ) → Contains pairs pair → (k : ℕ) × (slice_get pairs k ≡ Some pair)
 position_of [] pair among = absurd (Contains-none pair among)
 position_of (first ∷ pairs) pair among = ⊎_elim
@@ -51,7 +51,8 @@ firsts_are_one first other pairs others one two same = ⊎_elim
 smaller_not_same : (one other : ℕ × ℕ) → IsSmaller one other → one ≡ other → ⊥
 smaller_not_same one other smaller is = never_back one other smaller (subst (λ p. IsSmaller p one) is (subst (λ p. IsSmaller one p) (sym is) smaller))
 
--- If two lists have the same first element and the same elements, then so do their rests.
+-- Suppose two lists begin with one element, the first list increases, and the second list contains
+-- its elements. Then the second list without that element contains the other elements.
 behind_too :
     (first : ℕ × ℕ) (pairs others : List (ℕ × ℕ)) → AreIncreasing (first ∷ pairs)
     → ((pair : ℕ × ℕ) → Contains (first ∷ pairs) pair → Contains (first ∷ others) pair)

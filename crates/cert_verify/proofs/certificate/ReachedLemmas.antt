@@ -40,7 +40,7 @@ module _ {T : Type 0} (shapes : Shapes T) (lawful : AreLawful shapes Everything)
     some_typing : IsTyping shapes graph some_pairs
     some_typing = (held_by_some shapes Everything lawful graph root t tt has).1
 
-    -- If a path leads to a value, then the typing holds this value.
+    -- If a path leads to a value, then the pairs of the typing hold that value.
     position : (path : List ℕ) (w : Val) (u : T) → value_at shapes graph root t path ≡ Some (w, u) → IsHeld shapes graph some_pairs w u
     position path w u leads =
         (position_is_held shapes Everything lawful graph some_pairs some_typing path root t w u tt (held_by_some shapes Everything lawful graph root t tt has).2 leads).1
@@ -91,7 +91,8 @@ module _ {T : Type 0} (shapes : Shapes T) (lawful : AreLawful shapes Everything)
       held = record { fits = has.fits; listed = listed_where_led [] root t t refl (lawful.reflexive t tt) };
     }
 
--- If one list has an object, then the other has it at an equal type.
+-- If two lists contain the pairs that paths reach, then each object of the first list is in the
+-- second list at an equal type.
 there_too :
     (table : Table) → AreLawful (table_shapes table) Everything
     → (graph : List Obj) (root : Val) (pairs others : List (ℕ × ℕ)) → AreReached table graph root pairs → AreReached table graph root others

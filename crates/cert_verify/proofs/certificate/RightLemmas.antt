@@ -26,7 +26,8 @@ module _ (table : Table) (graph : List Obj) (pairs : List (ℕ × ℕ)) where
   -- ---- one value
 
   module _ (lawful : AreLawful (table_shapes table) Everything) (graph' : IsGraph graph) (word t : ℕ) where
-    -- If all pairs fit, then an object that is at an equal type fits.
+    -- If all pairs fit, and some pair has the object of a word at an equal type, then the object
+    -- fits the type.
     stands_fits : (v : Val) → IsValue (length graph) v → word ≡ word_of graph v → StandsAt table graph pairs word t → AllFit table graph pairs → (table_shapes table).fits graph v t
     stands_fits v valid is at all =
         let same : v ≡ vals.Ref at.object = word_of-inj graph v (vals.Ref at.object) graph' valid at.inside (sym is ∙ at.named) in
@@ -61,7 +62,7 @@ module _ (table : Table) (graph : List Obj) (pairs : List (ℕ × ℕ)) where
       let k = position_in pairs (pair.object, pair.ty) is.among in
       stands_at table pairs graph pair.word pair.object pair.ty pair.ty is.among (there k.0 (pair.object, pair.ty) k.1).0 is.named refl
 
-  -- If an object is immutable, then the condition on mutable objects holds.
+  -- If an object is immutable at a type, then the condition on mutable objects holds for it.
   pub fixed_is_at_one_type :
       (o t : ℕ) (shape : ShapeOf ℕ) → slice_get table.nodes t ≡ Some shape → is_mutable shape (slice_get graph o) ≡ false
       → (u : ℕ) → Contains pairs (o, u) → (table_shapes table).mutable graph o t → (table_shapes table).equal t u

@@ -28,7 +28,7 @@ use Rattle.cert_verify.specs.certificate.Testing.{HoldsNeed, HoldsAll, HoldsFirs
 
 -- ---- positions of faults
 
--- Within one pair, faults are ordered by kind and then by field.
+-- The faults of one pair are ordered by kind, then by field.
 pub at_one_pair :
     (i j c d c' d' : ℕ) → j ≡ i → IsLexicallyBefore (1 ∷ j ∷ c ∷ d ∷ []) (1 ∷ i ∷ c' ∷ d' ∷ []) → (c < c') ⊎ ((c ≡ c') × (d < d'))
 at_one_pair i j c d c' d' same (inl less) = absurd (omega (arith, less))
@@ -113,7 +113,8 @@ module _ (table : Table) (graph : List Obj) (pairs : List (ℕ × ℕ)) where
       → test ≡ is_mutable (node_or_none (slice_get table.nodes t)) (slice_get graph o)
   mutable_is o t shape test at_type is = is ∙ ap (λ n. is_mutable (node_or_none n) (slice_get graph o)) (sym at_type)
 
-  -- If the pair before is right and at an equal type, then the object is at no unequal type.
+  -- Suppose the earlier pairs are right, and the pair before pair `i` has the same object at an
+  -- equal type. Then no pair has that object at an unequal type.
   pub settled :
       AreLawful (table_shapes table) Everything → (i o t : ℕ) → AreRight table graph pairs i → (table_shapes table).mutable graph o t
       → slice_get pairs i ≡ Some (o, t) → IsSettled table pairs i

@@ -1,4 +1,4 @@
--- No entry is both accepted and rejected, and each entry has one answer.
+-- No entry is accepted and also rejected, and each entry has one answer.
 use Rattle.std.proofs.Common.{ℕ, ◌≡◌, ◌∙◌, ◌<◌, ◌⊎◌, inl, inr, List, length, Option, Some, None, Result, Ok, Err, refl, sym, ap, subst, arith}
 use Rattle.std.specs.Prelude.{slice_get, IsSome, IsSomeAnd, IfOk, option_and_then}
 use Rattle.std.proofs.lemmas.Bool.{false≢true}
@@ -35,7 +35,7 @@ graph_has graph o f fits = by_object (none_or_some (slice_get graph o)) where
   by_object (inl none) = absurd (false≢true (subst (λ found. IsSome (option_and_then f found)) none fits))
   by_object (inr (x, at)) = slice_get_within graph o x at
 
--- No object fits an index that is not in the table.
+-- No object fits the shape of a type number that is not in the table.
 no_object : (object : Obj) → ¬ IsSome (object_fields {T = ℕ} shapes.Variable object)
 no_object (objects.Block tag values) fits = false≢true fits
 no_object (objects.Bytes bytes) fits = false≢true fits
@@ -63,7 +63,7 @@ fitting_is_there table graph pair fits =
 
 -- ---- faults of accepted pairs
 
--- If a property holds for an option, then the option has a value.
+-- If an option has a value with a property, then not every value of the option lacks the property.
 at_some : {A : Type 0} (o : Option A) (P : A → Type 0) → IsSomeAnd o P → ((x : A) → o ≡ Some x → ¬ P x) → ⊥
 at_some o P holds never = let x = IsSomeAnd-some o P holds in never x.0 x.1 x.2
 

@@ -1,5 +1,5 @@
--- A certificate entry shows the same about a value for every table of a type. The pairs that paths
--- reach are the same list for every table.
+-- A certificate entry shows one result about a value for all tables of a type. The pairs that paths
+-- reach are one list for all tables.
 use Rattle.std.specs.Prelude.{ℕ, ◌≡◌, List}
 use Rattle.base_data.specs.declared.model.value.Val.{Val}
 use Rattle.base_data.specs.declared.model.value.Obj.{Obj}
@@ -34,7 +34,7 @@ AnswersAtAreOne =
     (one other : Verified) → IsAnswerAt decls t graph root section one
     → IsAnswerAt decls t graph root section other → one ≡ other
 
--- These are the pairs that paths reach, for a table of the types that the type reaches.
+-- The pairs that paths reach, for a table of the types that the type reaches.
 pub record AreReachedAt (decls : List Decl) (t : Ty) (graph : List Obj) (root : Val)
     (pairs : List (ℕ × ℕ)) : Type 0 where
   pub types : List Ty
@@ -43,7 +43,7 @@ pub record AreReachedAt (decls : List Decl) (t : Ty) (graph : List Obj) (root : 
   pub made : IsTableOf decls types table
   pub are : AreReached table graph root pairs
 
--- The list of these pairs is unique.
+-- The list of the pairs that paths reach at a type is unique.
 abbrev pub ReachedPairsAreOne : Type 0
 ReachedPairsAreOne =
     (decls : List Decl) (t : Ty) (graph : List Obj) (root : Val) (pairs others : List (ℕ × ℕ))

@@ -23,7 +23,8 @@ PairsGiveTheType =
     → AreAccepted (table_shapes table) graph root t pairs
     → HasType (table_shapes table) graph root t
 
--- If pairs are accepted for a value, then they hold everything that paths reach.
+-- If pairs are accepted for a value, then the pairs include every object that paths reach, at an
+-- equal type.
 abbrev pub PairsHoldWhatPathsReach : Type 0
 PairsHoldWhatPathsReach =
     (table : Table) → AreLawful (table_shapes table) Everything
@@ -40,8 +41,8 @@ PathsRefuteTheType =
     → (graph : List Obj) (root : Val) (t : ℕ) (fault : Fault)
     → IsFault (table_shapes table) graph root t fault → ¬ HasType (table_shapes table) graph root t
 
--- If two lists of pairs have the same objects at the same classes, then both are accepted or
--- neither is.
+-- If two lists of pairs have the same objects at equal types, and one list is accepted, then the
+-- other list is accepted.
 abbrev pub SamePairsAreAccepted : Type 0
 SamePairsAreAccepted =
     (table : Table) → AreLawful (table_shapes table) Everything
@@ -50,14 +51,14 @@ SamePairsAreAccepted =
     → AreAccepted (table_shapes table) graph root t pairs
     → AreAccepted (table_shapes table) graph root t others
 
--- Among these lists, at most one is in the order of an entry.
+-- Of the lists with the same objects at equal types, at most one is in the order of an entry.
 abbrev pub NormalPairsAreOne : Type 0
 NormalPairsAreOne =
     (table : Table) (pairs others : List (ℕ × ℕ)) → AreNormal table pairs → AreNormal table others
     → AreTheSame (table_shapes table) pairs others
     → pairs ≡ others
 
--- If something is wrong with an entry, then it is not accepted.
+-- If an entry has a fault, then the entry is not accepted.
 abbrev pub RejectedAreNotAccepted : Type 0
 RejectedAreNotAccepted =
     (table : Table) (graph : List Obj) (root : Val) (section : Section) (why : Why)
@@ -79,7 +80,7 @@ ReachedAreAccepted =
     → HasType (table_shapes table) graph root 0
     → AreReached table graph root pairs → AreAccepted (table_shapes table) graph root 0 pairs
 
--- At most one list has the pairs that paths reach.
+-- At most one list contains the pairs that paths reach, in the order of an entry.
 abbrev pub ReachedAreOne : Type 0
 ReachedAreOne =
     (table : Table) → AreLawful (table_shapes table) Everything

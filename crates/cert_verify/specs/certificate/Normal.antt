@@ -1,5 +1,5 @@
--- The pairs that a check writes for a value that has the type. They are the pairs that paths reach,
--- in one fixed order.
+-- The pairs that a check writes for a value of the type: the pairs that paths reach, in one fixed
+-- order.
 use Rattle.std.specs.Prelude.{ℕ, ◌<◌, ◌≡◌, List, Some, Contains}
 use Rattle.base_data.specs.declared.model.value.Val.{Val}
 use Rattle.base_data.specs.declared.model.value.Val.TheVariants as vals
@@ -10,7 +10,7 @@ use Rattle.types_spec.specs.types.Table.{Table, table_shapes}
 use Rattle.types_spec.specs.types.Typing.{IsListed}
 use Rattle.cert_format.specs.Increasing.{AreIncreasing}
 
--- No lesser index has an equal type.
+-- `t` is the least type number of its class: no lesser number has an equal type.
 abbrev pub IsLeast : Table → ℕ → Type 0
 IsLeast table t = (u : ℕ) → u < t → ¬ (table_shapes table).equal u t
 
@@ -19,7 +19,7 @@ pub record AreNormal (table : Table) (pairs : List (ℕ × ℕ)) : Type 0 where
   pub increasing : AreIncreasing pairs
   pub least : (o t : ℕ) → Contains pairs (o, t) → IsLeast table t
 
--- The two lists have the same objects at the same classes.
+-- The two lists have the same objects at equal types.
 pub record AreTheSame {T : Type 0} (shapes : Shapes T) (pairs others : List (ℕ × T)) : Type 0 where
   pub there : (o : ℕ) (t : T) → Contains pairs (o, t) → IsListed shapes others (vals.Ref o) t
   pub back : (o : ℕ) (t : T) → Contains others (o, t) → IsListed shapes pairs (vals.Ref o) t

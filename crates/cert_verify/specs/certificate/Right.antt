@@ -21,26 +21,27 @@ IsBacked table graph pairs word t =
     (v : Val) → IsValue (length graph) v → word ≡ word_of graph v → IsTrue (is_asked_in table t)
     → AllFit table graph pairs → IsHeld (table_shapes table) graph pairs v t
 
--- This is one of the pairs, with the word of its object. If pair i exists, then it is pair i.
+-- `pair` is one of the pairs, with the word of its object. If pair `i` exists, then `pair` is pair
+-- `i`.
 pub record IsWorded (graph : List Obj) (pairs : List (ℕ × ℕ)) (i : ℕ) (pair : Worded)
     : Type 0 where
   pub at : i < length pairs → slice_get pairs i ≡ Some (pair.object, pair.ty)
   pub among : Contains pairs (pair.object, pair.ty)
   pub named : pair.word ≡ word_of graph (vals.Ref pair.object)
 
--- Pair i fits.
+-- Pair `i` fits: its object fits its type.
 abbrev pub FitsAt : Table → List Obj → List (ℕ × ℕ) → ℕ → Type 0
 FitsAt table graph pairs i =
     (pair : ℕ × ℕ) → slice_get pairs i ≡ Some pair
     → (table_shapes table).fits graph (vals.Ref pair.0) pair.1
 
--- Pair i fits, and is right if all pairs fit.
+-- Pair `i` fits. If all pairs fit, pair `i` is right.
 pub record IsRightWithAll (table : Table) (graph : List Obj) (pairs : List (ℕ × ℕ))
     (i : ℕ) : Type 0 where
   pub fits : FitsAt table graph pairs i
   pub right : AllFit table graph pairs → IsRightAt table graph pairs i
 
--- The first n pairs fit, and are right if all pairs fit.
+-- The first `n` pairs fit. If all pairs fit, the first `n` pairs are right.
 pub record AreRightWithAll (table : Table) (graph : List Obj) (pairs : List (ℕ × ℕ))
     (n : ℕ) : Type 0 where
   pub fit : (k : ℕ) → k < n → FitsAt table graph pairs k

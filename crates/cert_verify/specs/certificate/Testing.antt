@@ -21,7 +21,7 @@ use Rattle.cert_verify.specs.certificate.Verified.{IsThere, LacksNeed, IsAtTwoTy
 abbrev pub IsThereNow : Table → List Obj → ℕ × ℕ → Type 0
 IsThereNow table graph pair = IsThere table graph pair
 
--- The objects and types of the first n pairs exist.
+-- The objects and types of the first `n` pairs exist.
 abbrev pub AreThere : Table → List Obj → List (ℕ × ℕ) → ℕ → Type 0
 AreThere table graph pairs n =
     (k : ℕ) (pair : ℕ × ℕ) → k < n → slice_get pairs k ≡ Some pair → IsThere table graph pair
@@ -31,7 +31,7 @@ abbrev pub AreAllThere : Table → List Obj → List (ℕ × ℕ) → Type 0
 AreAllThere table graph pairs =
     (k : ℕ) (pair : ℕ × ℕ) → slice_get pairs k ≡ Some pair → IsThere table graph pair
 
--- Pair i is the first pair whose object or type does not exist.
+-- Pair `i` is the first pair whose object or type does not exist.
 pub record IsFirstOut (table : Table) (graph : List Obj) (pairs : List (ℕ × ℕ))
     (i : ℕ) : Type 0 where
   pub out : IsSomeAnd (slice_get pairs i) (λ pair. ¬ IsThere table graph pair)
@@ -39,7 +39,8 @@ pub record IsFirstOut (table : Table) (graph : List Obj) (pairs : List (ℕ × �
 
 -- ---- the pairs of an object
 
--- The pairs before this index have lesser objects, and those from it on do not.
+-- The pairs before index `position` have lesser objects than `object`. The pairs from the index on
+-- do not.
 pub record IsStart (pairs : List (ℕ × ℕ)) (object position : ℕ) : Type 0 where
   pub within : position ≤ length pairs
   pub smaller : (k : ℕ) (pair : ℕ × ℕ) → k < position → slice_get pairs k ≡ Some pair
@@ -47,15 +48,15 @@ pub record IsStart (pairs : List (ℕ × ℕ)) (object position : ℕ) : Type 0 
   pub others : (k : ℕ) (pair : ℕ × ℕ) → position ≤ k → slice_get pairs k ≡ Some pair
       → object ≤ pair.0
 
--- The start of the object is at least low and at most high.
+-- The index of the first pair that is not before `object` is at least `low` and at most `high`.
 pub record IsBetween (pairs : List (ℕ × ℕ)) (object low high : ℕ) : Type 0 where
   pub order : low ≤ high
   pub within : high ≤ length pairs
   pub smaller : (k : ℕ) (pair : ℕ × ℕ) → k < low → slice_get pairs k ≡ Some pair → pair.0 < object
   pub others : (k : ℕ) (pair : ℕ × ℕ) → high ≤ k → slice_get pairs k ≡ Some pair → object ≤ pair.0
 
--- Before this index the object is at no type of this kind. From the index on, all objects are at
--- least this one.
+-- The object's pairs before index `position` have no type that satisfies `Is`. The pairs from the
+-- index on have objects that are at least `object`.
 pub record IsPassing (pairs : List (ℕ × ℕ)) (object position : ℕ) (Is : ℕ → Type 0) : Type 0 where
   pub within : position ≤ length pairs
   pub none : (k t : ℕ) → k < position → slice_get pairs k ≡ Some (object, t) → ¬ Is t
@@ -82,12 +83,12 @@ pub record StandsAt (table : Table) (graph : List Obj) (pairs : List (ℕ × ℕ
 abbrev pub IsElsewhere : Table → List (ℕ × ℕ) → ℕ → ℕ → Type 0
 IsElsewhere table pairs o t = (u : ℕ) × Contains pairs (o, u) × (¬ (table_shapes table).equal t u)
 
--- Objects with classes are ordered by the object, then by the class.
+-- Pairs of an object and a class are ordered by object, then by class.
 abbrev pub pair_cmp : ℕ × ℕ → ℕ × ℕ → Ordering
 pair_cmp x y = ordering_then (nat_cmp x.0 y.0) (nat_cmp x.1 y.1)
 
--- Each entry of the set is the object and class of a pair. The set contains all pairs before this
--- index that are preceded by 16 pairs of the same object.
+-- Each element of the set is the object and the class of a pair. The set contains each pair before
+-- index `position` that is preceded by 16 pairs of its object.
 pub record AreCrowded (table : Table) (pairs : List (ℕ × ℕ)) (position : ℕ)
     (Has : ℕ → ℕ → Type 0) : Type 0 where
   pub some :
@@ -97,15 +98,15 @@ pub record AreCrowded (table : Table) (pairs : List (ℕ × ℕ)) (position : �
       → slice_get pairs (k + 16) ≡ Some (o, t)
       → slice_get table.classes t ≡ Some c → Has o c
 
--- The elements of a set.
+-- The object and the class are an element of the set.
 abbrev pub is_in : BTreeSet (ℕ × ℕ) → ℕ → ℕ → Type 0
 is_in frequent o c = IsTrue (contains pair_cmp frequent (o, c))
 
 abbrev pub IsFrequent : Table → List (ℕ × ℕ) → BTreeSet (ℕ × ℕ) → Type 0
 IsFrequent table pairs frequent = AreCrowded table pairs (length pairs) (is_in frequent)
 
--- If the pair before pair i has the same object at an equal type, then no pair has the object at an
--- unequal one.
+-- If the pair before pair `i` has the same object at an equal type, then no pair has that object at
+-- an unequal type.
 abbrev pub IsSettled : Table → List (ℕ × ℕ) → ℕ → Type 0
 IsSettled table pairs i =
     (j o s t : ℕ) → j + 1 ≡ i → slice_get pairs j ≡ Some (o, s) → slice_get pairs i ≡ Some (o, t)
@@ -118,20 +119,19 @@ abbrev pub HoldsNeed : Table → List Obj → List (ℕ × ℕ) → ℕ → ℕ 
 HoldsNeed table graph pairs o need =
     IsSomeAnd (field_at graph o need.0) (λ v. IsHeld (table_shapes table) graph pairs v need.1)
 
--- All required fields of the object at the type are held.
+-- The object holds all required fields at the type.
 abbrev pub HoldsAll : Table → List Obj → List (ℕ × ℕ) → ℕ → ℕ → Type 0
 HoldsAll table graph pairs o t =
     (i a : ℕ) → Contains ((table_shapes table).needs graph (vals.Ref o) t) (i, a)
     → HoldsNeed table graph pairs o (i, a)
 
--- Among the first n fields of an object that have types, those with a type that is not a wildcard
--- are held.
+-- Among the first `n` typed fields of an object, each field whose type is not a wildcard is held.
 abbrev pub HoldsFirst : Table → List Obj → List (ℕ × ℕ) → ℕ → List (ℕ × ℕ) → ℕ → Type 0
 HoldsFirst table graph pairs o needs n =
     (j i a : ℕ) → j < n → slice_get needs j ≡ Some (i, a) → IsTrue (is_asked_in table a)
     → HoldsNeed table graph pairs o (i, a)
 
--- This is the first required field that is not held.
+-- `field` is the first required field that is not held.
 pub record IsFirstMissing (table : Table) (graph : List Obj) (pairs : List (ℕ × ℕ))
     (o t field : ℕ) : Type 0 where
   pub lacks : LacksNeed table graph pairs (o, t) field
@@ -161,12 +161,12 @@ pub record IsRight (table : Table) (graph : List Obj) (pairs : List (ℕ × ℕ)
       (u : ℕ) → Contains pairs (pair.0, u) → (table_shapes table).mutable graph pair.0 pair.1
       → (table_shapes table).equal pair.1 u
 
--- Pair i is right.
+-- Pair `i` is right.
 abbrev pub IsRightAt : Table → List Obj → List (ℕ × ℕ) → ℕ → Type 0
 IsRightAt table graph pairs i =
     (pair : ℕ × ℕ) → slice_get pairs i ≡ Some pair → IsRight table graph pairs pair
 
--- This is the first fault of pair i.
+-- `why` is the first fault of pair `i`.
 pub record IsFirstAt (table : Table) (graph : List Obj) (pairs : List (ℕ × ℕ)) (i : ℕ)
     (why : Why) : Type 0 where
   pub is : IsWrongWith table graph pairs i why
@@ -174,6 +174,6 @@ pub record IsFirstAt (table : Table) (graph : List Obj) (pairs : List (ℕ × �
       (other : Why) → IsWrongWith table graph pairs i other
       → ¬ IsLexicallyBefore (position_of other) (position_of why)
 
--- The first n pairs are right.
+-- The first `n` pairs are right.
 abbrev pub AreRight : Table → List Obj → List (ℕ × ℕ) → ℕ → Type 0
 AreRight table graph pairs n = (k : ℕ) → k < n → IsRightAt table graph pairs k

@@ -25,7 +25,7 @@ use Rattle.cert_verify.specs.certificate.Accepted.{IsAccepted}
 abbrev pub IsThere : Table → List Obj → ℕ × ℕ → Type 0
 IsThere table graph pair = (pair.0 < length graph) × (pair.1 < length table.nodes)
 
--- A required field of the pair is not held at its type.
+-- A required field of the pair's object is not held at the type of the field.
 pub record LacksNeed (table : Table) (graph : List Obj) (pairs : List (ℕ × ℕ)) (pair : ℕ × ℕ)
     (field : ℕ) : Type 0 where
   pub type : ℕ
@@ -34,7 +34,8 @@ pub record LacksNeed (table : Table) (graph : List Obj) (pairs : List (ℕ × �
       ¬ IsSomeAnd (field_at graph pair.0 field)
       (λ v. IsHeld (table_shapes table) graph pairs v type)
 
--- The object is mutable at the type of the pair, and is among the pairs at an unequal type.
+-- The object is mutable at the type of the pair, and another pair has the object at an unequal
+-- type.
 pub record IsAtTwoTypes (table : Table) (graph : List Obj) (pairs : List (ℕ × ℕ))
     (pair : ℕ × ℕ) : Type 0 where
   pub mutable : (table_shapes table).mutable graph pair.0 pair.1
@@ -42,7 +43,7 @@ pub record IsAtTwoTypes (table : Table) (graph : List Obj) (pairs : List (ℕ ×
   pub among : Contains pairs (pair.0, other)
   pub unequal : ¬ (table_shapes table).equal pair.1 other
 
--- The faults of pairs.
+-- The faults of pairs, by the reason that states them.
 abbrev pub IsWrong : Table → List Obj → Val → List (ℕ × ℕ) → Why → Type 0
 IsWrong table graph root pairs (Range i) =
     IsSomeAnd (slice_get pairs i) (λ pair. ¬ IsThere table graph pair)
@@ -56,7 +57,7 @@ IsWrong table graph root pairs (TwoTypes i) =
 IsWrong table graph root pairs Root = ¬ IsHeld (table_shapes table) graph pairs root 0
 IsWrong table graph root pairs NotFault = ⊥
 
--- The faults of an entry.
+-- The faults of an entry, by the reason that states them.
 abbrev pub IsWhy : Table → List Obj → Val → Section → Why → Type 0
 IsWhy table graph root (sections.Pairs pairs) why = IsWrong table graph root pairs why
 IsWhy table graph root (sections.Mismatch path) why =
@@ -66,8 +67,9 @@ IsWhy table graph root (sections.Conflict first second) why =
 
 -- ---- the first reason
 
--- The position of a fault in the order of verification: first over all pairs, then pair by pair
--- with its fields in order, then at the root.
+-- The position of a fault in the order of verification. Faults of the range of all pairs come
+-- first. Then come the faults of each pair, with the pair's fields in order. The fault of the root
+-- comes last.
 abbrev pub position_of : Why → List ℕ
 position_of (Range i) = 0 ∷ i ∷ 0 ∷ 0 ∷ []
 position_of (Unfit i) = 1 ∷ i ∷ 0 ∷ 0 ∷ []
@@ -76,7 +78,7 @@ position_of (TwoTypes i) = 1 ∷ i ∷ 2 ∷ 0 ∷ []
 position_of Root = 2 ∷ 0 ∷ 0 ∷ 0 ∷ []
 position_of NotFault = 3 ∷ 0 ∷ 0 ∷ 0 ∷ []
 
--- This is a fault of the entry, and no fault comes before it.
+-- `why` is a fault of the entry, and no fault comes before it.
 pub record IsFirstWhy (table : Table) (graph : List Obj) (root : Val) (section : Section)
     (why : Why) : Type 0 where
   pub is : IsWhy table graph root section why
@@ -95,20 +97,21 @@ abbrev pub fault_section : Fault → Section
 fault_section (faults.Mismatch path) = sections.Mismatch path
 fault_section (faults.Conflict first second) = sections.Conflict first second
 
--- The entry is accepted, and the answer is what it proves. Otherwise the answer is the first fault
--- of the entry.
+-- The answer to an entry. If the entry is accepted, the answer is what the entry proves. If the
+-- entry is not accepted, the answer is the first fault of the entry.
 abbrev pub IsVerified : Table → List Obj → Val → Section → Verified → Type 0
 IsVerified table graph root section answer =
     (IsAccepted table graph root section × (answer ≡ shown_by section))
     ⊎ ((why : Why) × IsFirstWhy table graph root section why × (answer ≡ Rejected why))
 
--- If the answer is `Yes`, then the value has type 0. If the answer is `No`, then it does not.
+-- If the answer is `Yes`, then the value has type 0. If the answer is `No`, then the value does not
+-- have type 0.
 abbrev pub Shows : Table → List Obj → Val → Verified → Type 0
 Shows table graph root Yes = HasType (table_shapes table) graph root 0
 Shows table graph root (No fault) = ¬ HasType (table_shapes table) graph root 0
 Shows table graph root (Rejected why) = Unit {0}
 
--- There is no other answer.
+-- Each answer to the entry equals this answer.
 abbrev pub IsOneAnswer : Table → List Obj → Val → Section → Verified → Type 0
 IsOneAnswer table graph root section answer =
     (other : Verified) → IsVerified table graph root section other → other ≡ answer

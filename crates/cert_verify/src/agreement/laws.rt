@@ -1,5 +1,4 @@
-//! The laws of this crate. Each function is a lemma function: it has no effect and exists only for
-//! its contract.
+//! The laws of this module. A lemma function does nothing at run time: its contract is a law.
 
 ghost use Rattle.cert_verify.specs.agreement.Agree.{ReachedTypesAreOne, AnswersAtAreOne};
 ghost use Rattle.cert_verify.specs.agreement.Agree.{ReachedPairsAreOne};
@@ -9,12 +8,12 @@ pub fn types_are_one_list()
     ensures { ReachedTypesAreOne }
 {}
 
-/// A certificate entry has the same answer at a type for every table of the type.
+/// A certificate entry at a type has one answer for all tables of the type.
 pub fn tables_verify_agree()
     ensures { AnswersAtAreOne }
 {}
 
-/// The list of the pairs that paths reach at a type is the same for every table of the type.
+/// The pairs that paths reach at a type are one list for all tables of the type.
 pub fn tables_reach_agree()
     ensures { ReachedPairsAreOne }
 {}

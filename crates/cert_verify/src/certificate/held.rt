@@ -1,4 +1,4 @@
-//! Finds the pairs of an object, and the types at which they have it.
+//! Finds the pairs of an object, and the types of these pairs.
 
 ghost use Rattle.std.specs.Prelude.{ℕ, ◌≡◌, ◌<◌, ◌≤◌, ◌+◌, ◌↔◌, length, slice_get, Some, IsTrue};
 ghost use Rattle.std.specs.Prelude.{IfOk};
@@ -23,8 +23,8 @@ use std::alloc::Global;
 use std::collections::BTreeSet;
 use types_table::type_table::TypeTable;
 
-/// Returns true if the first pair of the object is at the index equal to the object number. This is
-/// the case if each object before it has one pair.
+/// Returns true only if the first pair of the object is at the index equal to the object number.
+/// That is so if each earlier object has one pair.
 fn is_own_position(pairs: &CertificatePairs, object: u64) -> bool
     ensures { OnTrue result (IsStart pairs.now object object) }
 {
@@ -44,7 +44,7 @@ fn is_own_position(pairs: &CertificatePairs, object: u64) -> bool
     before < object
 }
 
-/// Returns the index of the first pair whose object is not less than this one.
+/// Returns the index of the first pair whose object is not less than `object`.
 fn start_of(pairs: &CertificatePairs, object: u64) -> usize
     ensures { IsStart pairs.now object result }
 {
@@ -66,7 +66,7 @@ fn start_of(pairs: &CertificatePairs, object: u64) -> usize
     low
 }
 
-/// Returns the objects and type classes of the pairs that are preceded by 16 pairs of the same
+/// Returns the object and the class of the type of each pair that is preceded by 16 pairs of its
 /// object.
 pub fn frequent_of(
     alloc: Global,
@@ -88,7 +88,7 @@ pub fn frequent_of(
     Ok(frequent)
 }
 
-/// Returns the index 16 after `start`, or the end if there are fewer pairs.
+/// Returns the index 16 after `start`, or `len` if there are fewer than 16 pairs from `start` on.
 fn few_end(len: usize, start: usize) -> usize
     requires { start ≤ len }
     ensures within { result ≤ len }
@@ -97,8 +97,8 @@ fn few_end(len: usize, start: usize) -> usize
     if len - start > 16 { start + 16 } else { len }
 }
 
-/// Returns true if one of the first 16 pairs of the object is at an equal type. A result of false
-/// says nothing about the other pairs.
+/// Returns true only if one of the first 16 pairs of the object is at an equal type. If the result
+/// is false, a later pair of the object may be at an equal type.
 #[inline(never)]
 pub fn is_among_few(table: &TypeTable, pairs: &CertificatePairs, object: u64, ty: usize) -> bool
     requires there { (k o t : ℕ) → slice_get pairs.now k ≡ Some (o, t)
@@ -150,8 +150,8 @@ pub fn is_among(
     frequent.contains(&(object, class))
 }
 
-/// Returns true if some pair has the object of pair `i` at an unequal type. If the pair before it
-/// has the same object, that pair decides.
+/// Returns true if some pair has the object of pair `i` at an unequal type. If the pair before pair
+/// `i` has the same object, the type of the pair before decides.
 pub fn is_elsewhere(
     table: &TypeTable,
     pairs: &CertificatePairs,
@@ -177,7 +177,7 @@ pub fn is_elsewhere(
     is_elsewhere_behind(table, pairs, i + 1, object, ty)
 }
 
-/// Returns true if some pair has the object at an unequal type, given that the pairs of the object
+/// Returns true if some pair has the object at an unequal type, given that the object's pairs
 /// before `start` are at equal types.
 pub fn is_elsewhere_behind(
     table: &TypeTable,
@@ -208,8 +208,8 @@ pub fn is_elsewhere_behind(
     false
 }
 
-/// Returns true if the value of a word is held at a type. A value is held if it fits the type and,
-/// if it is a reference, some pair has its object at an equal type.
+/// Returns true if the value of a word is held at a type. A held value fits the type. If a held
+/// value is a reference, some pair has the referenced object at an equal type.
 pub fn is_held(
     stated: StatedPairs<'_>,
     frequent: &BTreeSet<(u64, usize)>,

@@ -1,6 +1,6 @@
 //! Verifies a certificate entry against a value.
 
-ghost use Rattle.std.specs.Prelude.{◌≡◌, ◌<◌, ◌↔◌, length, IfOk, IsTrue, MatchOption};
+ghost use Rattle.std.specs.Prelude.{◌<◌, ◌↔◌, length, IfOk, IsTrue, MatchOption};
 ghost use Rattle.base_data.specs.model.Graph.{IsValue};
 ghost use Rattle.types_table.specs.type_table.Made.{table_of};
 ghost use Rattle.check_heap.specs.scan.Fitting.{table_in};
@@ -15,7 +15,6 @@ use crate::certificate::stated_pairs::StatedPairs;
 use crate::certificate::test::test_pair;
 use crate::certificate::verified::{Verified, Why};
 use base_data::model::Memory;
-use base_data::model::path::Path;
 use base_data::model::value::Val;
 use cert_format::{CertificatePairs, Section};
 use check_fault::is_fault;
@@ -26,7 +25,7 @@ use types_spec::types::fault::Fault;
 use types_table::type_table::TypeTable;
 
 /// Returns what a certificate entry proves about a value, or why the entry is rejected. Does not
-/// search: it tests each pair on its own, and follows each path.
+/// search: tests each pair on its own, and follows each path.
 pub fn verify(
     alloc: Global,
     value: &Rooted<'_>,
@@ -43,7 +42,7 @@ pub fn verify(
     answer_of(alloc, value, table, section)
 }
 
-/// Verifies an entry by its kind.
+/// Verifies a certificate entry, by the kind of the entry.
 fn answer_of(
     alloc: Global,
     value: &Rooted<'_>,
@@ -56,26 +55,15 @@ fn answer_of(
     match section {
         Section::Pairs(pairs) => verify_pairs(alloc, value, table, pairs),
         Section::Mismatch(path) => {
-            let path = copied(alloc, path)?;
+            let path = path.copied(alloc)?;
             Ok(verify_fault(value, table, Fault::Mismatch(path)))
         }
         Section::Conflict(first, second) => {
-            let first = copied(alloc, first)?;
-            let second = copied(alloc, second)?;
+            let first = first.copied(alloc)?;
+            let second = second.copied(alloc)?;
             Ok(verify_fault(value, table, Fault::Conflict(first, second)))
         }
     }
-}
-
-/// Copies a path.
-fn copied(alloc: Global, path: &Path) -> Result<Path, Memory>
-    ensures { IfOk result (λ copy. copy ≡ path.now) }
-{
-    let mut copy = Path::new(alloc);
-    for i in 0..path.len() {
-        copy.push(path.step(i))?;
-    }
-    Ok(copy)
 }
 
 /// Verifies that the paths of an entry are a fault.
@@ -136,8 +124,8 @@ fn verify_pairs<'a>(
     verify_each(alloc, value.root, stated)
 }
 
-/// Verifies the pairs one by one, and so finds the first fault of the entry. The objects and types
-/// of all pairs must exist.
+/// Verifies the pairs one by one, and returns the first fault of the entry, if it has one. The
+/// objects and types of all pairs must exist.
 fn verify_each(alloc: Global, root: Val, stated: StatedPairs<'_>) -> Result<Verified, Memory>
     requires value { IsValue (length stated.heap.now) root }
     ensures { IfOk result (IsVerified (table_in stated.entry.fitting) stated.entry.heap.now root

@@ -7,16 +7,17 @@ ghost use Rattle.cert_verify.specs.certificate.Laws.{RejectedAreNotAccepted, Ans
 ghost use Rattle.cert_verify.specs.certificate.Laws.{ReachedAreAccepted};
 ghost use Rattle.cert_verify.specs.certificate.Laws.{ReachedAreOne};
 
-/// If pairs are accepted for a value, then the value has the type, and the pairs hold everything
-/// that paths reach. If paths are accepted, then the value does not have the type.
+/// If pairs are accepted for a value, then the value has the type, and the pairs include every
+/// object that paths reach. If paths are accepted, then the value does not have the type.
 pub fn accepted_sections_are_right()
     ensures pairs { PairsGiveTheType }
     ensures reached { PairsHoldWhatPathsReach }
     ensures paths { PathsRefuteTheType }
 {}
 
-/// If pairs differ from accepted ones only by equal types and by order, then they are accepted too.
-/// Among all these lists, exactly one is in the order of a certificate entry.
+/// If two lists of pairs differ only by equal types and by order, and one list is accepted, then
+/// the other list is accepted. Of all lists with the same objects at equal types, at most one is in
+/// the order of a certificate entry.
 pub fn the_same_pairs_are_accepted()
     ensures accepted { SamePairsAreAccepted }
     ensures one { NormalPairsAreOne }

@@ -1,5 +1,6 @@
-//! Fast path for accepting pairs. It does not find out what is wrong with other pairs. It tests if
-//! an object fits a type only at the pairs of the object, and not where another object needs it.
+//! Fast path for accepting pairs. The fast path does not find out what is wrong with pairs that it
+//! does not accept. The fast path tests whether an object fits a type only at the pairs of the
+//! object, not at each reference to the object.
 
 ghost use Rattle.std.specs.Prelude.{ℕ, ◌≡◌, ◌<◌, false, length, slice_get, Some, Contains, IsTrue};
 ghost use Rattle.std.specs.Bool.{OnTrue};
@@ -24,7 +25,7 @@ use check_heap::scan::fits_type;
 use types_spec::types::shape::{Constr, ShapeOf};
 use types_table::type_table::TypeTable;
 
-/// A pair, and the word of its object.
+/// A pair, and the word that refers to the object of the pair.
 #[derive(Clone, Copy)]
 pub struct Worded {
     pub object: u64,
@@ -49,8 +50,8 @@ pub fn are_accepted(root: Val, stated: StatedPairs<'_>) -> bool
     is_backed(stated, near, stated.heap.word(root), ty)
 }
 
-/// Returns true only if all pairs are right. May return false for right pairs, in the same cases as
-/// `are_accepted`.
+/// Returns true only if all pairs are right. May return false for right pairs. Examples are an
+/// object with more than 16 pairs, and a mutable object at two equal types.
 fn are_right(stated: StatedPairs<'_>) -> bool
     requires some { 0 < length stated.pairs.now }
     ensures { OnTrue result (AreRight (table_in stated.entry.fitting) stated.entry.heap.now
@@ -77,7 +78,8 @@ fn position_or_last(len: usize, i: usize) -> usize
     if i < len { i } else { len - 1 }
 }
 
-/// Returns pair `i` and the word of its object. If there is no pair `i`, returns the last pair.
+/// Returns pair `i` and the word of its object. If no pair has the index `i`, returns the last
+/// pair.
 #[inline(always)]
 fn pair_at(stated: StatedPairs<'_>, i: usize) -> Worded
     requires some { 0 < length stated.pairs.now }
@@ -93,7 +95,7 @@ fn pair_at(stated: StatedPairs<'_>, i: usize) -> Worded
 }
 
 /// Returns true only if pair `i` fits, and is right if all pairs fit. `near` is a neighbouring
-/// pair, which is often that of the last field of the object.
+/// pair, which often has the object of the last field.
 #[inline(always)]
 fn is_right(stated: StatedPairs<'_>, i: usize, own: Worded, near: Worded) -> bool
     requires in_range { i < length stated.pairs.now }
@@ -118,7 +120,8 @@ fn is_right(stated: StatedPairs<'_>, i: usize, own: Worded, near: Worded) -> boo
     }
 }
 
-/// Returns the same result for a pair with any shape, given that the pair fits.
+/// Returns true only if pair `i`, which fits, is right if all pairs fit. The shape of the type may
+/// be any shape.
 #[inline(never)]
 fn is_any_right(
     stated: StatedPairs<'_>,
@@ -146,8 +149,8 @@ fn is_any_right(
     holds_needs(stated, i, own, near, shape)
 }
 
-/// Returns the same result for a pair that fits and, if it is mutable, is at one type. This
-/// function is inlined for each kind of immutable shape.
+/// Returns true only if pair `i` is right if all pairs fit. Pair `i` must fit and, if its object is
+/// mutable, be at one type. The function is inlined for each kind of immutable shape.
 #[inline(always)]
 fn holds_needs(
     stated: StatedPairs<'_>,
@@ -179,7 +182,8 @@ fn holds_needs(
     }
 }
 
-/// Returns true if there is one constructor with arguments, and its blocks are immutable.
+/// Returns true only if exactly one constructor has arguments, and the blocks of this constructor
+/// are immutable.
 #[inline(always)]
 fn is_one_constant(blocks: &[Constr<usize>]) -> bool
     ensures { OnTrue result
@@ -188,8 +192,8 @@ fn is_one_constant(blocks: &[Constr<usize>]) -> bool
     blocks.len() == 1 && !blocks[0].mutable
 }
 
-/// Returns true if pair `i` is the first pair of its object, and no pair has the object at an
-/// unequal type.
+/// Returns true only if no pair has the object of pair `i` at an unequal type. Returns false if
+/// pair `i` is not the first pair of its object.
 #[inline(never)]
 fn is_at_one_type(
     table: &TypeTable,
@@ -214,7 +218,7 @@ fn is_at_one_type(
 }
 
 /// Returns true only if the object with this word holds all required fields at a type, given that
-/// all pairs fit. This function is inlined for each kind of required fields.
+/// all pairs fit. The function is inlined for each kind of required fields.
 #[inline(always)]
 fn each_backed(
     stated: StatedPairs<'_>,
@@ -251,8 +255,8 @@ fn each_backed(
     true
 }
 
-/// Returns true only if the value of a word is held at a type that is not a wildcard, given that
-/// all pairs fit.
+/// Suppose the result is true, all pairs fit and the type is not a wildcard. Then the value of the
+/// word is held at the type.
 #[inline(always)]
 fn is_backed(stated: StatedPairs<'_>, near: Worded, word: u64, ty: usize) -> bool
     requires word { IsFieldWord stated.heap.now word }

@@ -7,7 +7,7 @@ use cert_format::CertificatePairs;
 use check_heap::scan::Fitting;
 use marshal_heap::heap::Heap;
 
-/// Pairs of objects of a heap and types of a table. All these objects and types exist.
+/// Pairs of objects of a heap and types of a table. The objects and types of all pairs exist.
 #[derive(Clone, Copy)]
 pub struct StatedPairs<'a> {
     pub heap: &'a Heap,

@@ -56,8 +56,8 @@ fn first_missing(
     None
 }
 
-/// Returns what is first wrong with pair `i`. The objects and types of all pairs must exist, and
-/// the pairs before `i` must be right.
+/// Returns the first fault of pair `i`. The objects and types of all pairs must exist, and the
+/// pairs before pair `i` must be right.
 pub fn test_pair(
     stated: StatedPairs<'_>,
     frequent: &BTreeSet<(u64, usize)>,

@@ -9,13 +9,13 @@ pub enum Why {
     Range(u64),
     /// The object of the pair does not fit its type.
     Unfit(u64),
-    /// This field of the pair does not fit its type, or is an object that no pair has at an equal
-    /// type.
+    /// This field of the pair's object does not fit its type, or refers to an object that no pair
+    /// has at an equal type.
     Need(u64, u64),
     /// The object of the pair is mutable at its type, and another pair has the object at an unequal
     /// type.
     TwoTypes(u64),
-    /// The root does not fit its type, or is an object that no pair has at an equal type.
+    /// The root does not fit its type, or refers to an object that no pair has at an equal type.
     Root,
     /// The paths are not a fault.
     NotFault,

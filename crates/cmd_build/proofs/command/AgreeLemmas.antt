@@ -1,4 +1,4 @@
--- The meaning of a line by a table equals its meaning at the table's type.
+-- The meaning of a line by a table equals the meaning at the table's type.
 use Rattle.std.proofs.Common.{ℕ, ◌≡◌, List, [], Some, Ok, Err, refl, sym, ap, ◌∙◌, subst}
 use Rattle.base_data.specs.declared.model.value.Val.{Val}
 use Rattle.base_data.specs.declared.model.value.Val.TheVariants as vals
@@ -24,11 +24,11 @@ use Rattle.edit_values.proofs.AgreeLemmas.{set_at_agree, AnswersAgree, literal_t
 use Rattle.run_types.specs.Language.{TypeOver}
 use Rattle.cmd_build.specs.command.Lines.{AreText}
 
--- An arbitrary value: the value at the root before a text is stored there is never used.
+-- An arbitrary value. The value at the root before a text is stored is never used.
 abbrev pub before : Val
 before = vals.Atom 0
 
--- At the root.
+-- The location of the root, at the type `t`.
 abbrev pub at_root : {T : Type 0} → T → TypedLocation T
 at_root t = record { spot = spots.Root; value = before; ty = t }
 
@@ -58,7 +58,7 @@ module _ (t : TypeOver) (lexemes : List Lexeme) (end : ℕ) where
 
 -- ---- by a table
 
--- The reason that an error of a literal reports.
+-- The error of a literal reports the reason of the refusal.
 reason_is : (r : Refusal ℕ) → literal_reason (fault_of r) ≡ Some (misread r)
 reason_is (mismatch_at position i) = refl
 reason_is (int_range_at position) = refl
@@ -70,7 +70,8 @@ module _ (t : TypeOver) (table : Tabled) (made : IsTypeTable t.decls t.type tabl
   IsWrittenIn answer =
       IsSetAt (shape_in table) (names_in table) [] before (at_root 0) lexemes end answer
 
-  -- At the type the result is the same, or the text is refused for a reason with the same text.
+  -- If a text has a result by the table, then the text has an equal result at the type, or is
+  -- refused with an equal error text.
   abbrev IsWrittenToo : Answer ℕ → Type 0
   IsWrittenToo answer =
       (other : Answer Ty) × IsWritten t lexemes end other
@@ -93,7 +94,7 @@ module _ (t : TypeOver) (table : Tabled) (made : IsTypeTable t.decls t.type tabl
         subst (λ b. AreText t lexemes end (Ok b)) (sym same) (text_of_written t lexemes end (Ok other) is)
     by (Err reason, is, same) = absurd same
 
-  -- A reason at the type has the text of the error.
+  -- Some reason at the type has the text of the error `fault`.
   abbrev pub HasReason : LiteralFault → Type 0
   HasReason fault =
       (reason : Reason Ty) × AreText t lexemes end (Err reason)

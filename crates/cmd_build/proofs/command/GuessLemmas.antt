@@ -1,4 +1,4 @@
--- If a value has the type and its text is the line, then the line denotes the value.
+-- If a value has the type and the value's text is the line, then the line denotes the value.
 use Rattle.std.proofs.Common.{◌≡◌, ℕ, ◌+◌, ◌<◌, ◌≤◌, ◌^◌, List, [], length, map, Option, Result, Ok, Err, inl, inr, refl, sym, ap, ◌∙◌, subst, arith}
 use Rattle.std.specs.Prelude.{◌≢◌, Bool, false, IfOk, IsErrAnd}
 use Rattle.base_data.specs.declared.model.out_of_memory.Memory.{Memory}

@@ -103,7 +103,7 @@ module _ (line : List ℕ) where
         (λ (r : Reason Ty) (number : ℕ). literal_text type_text (known number) r) same
         ∙ sym encoded')
 
-    -- If no value has both the type and a fault.
+    -- If no value has both the type and a fault, then a line has only one meaning.
     module _ (never_both : (graph : List Obj) (root : Val) (text : List ℕ)
         → HasType (declared_shapes t.decls) graph root t.type
         → IsNoLine (declared_shapes t.decls) type_text graph root t.type text → ⊥) where

@@ -1,4 +1,4 @@
--- The result of the code for a line: its value or an error, and its bytes or an error.
+-- The result of the code for a line: a value or an error, and bytes or an error.
 use Rattle.std.proofs.Common.{ℕ, ◌≡◌, ◌+◌, Bool, false, List, length, Option, Some, None, Result, Ok, Err, inl, inr, refl, sym, ap, ◌∙◌, subst}
 use Rattle.std.specs.Prelude.{IfOk, IsErrAnd}
 use Rattle.base_data.specs.declared.model.out_of_memory.Memory.{Memory}
@@ -54,7 +54,7 @@ module _ (r : Prepared) (ready : IsReady r) (known : ℕ → ℕ → List ℕ) (
     },
   )
 
-  -- The line is refused, with the text of the error.
+  -- If parsing reports an error, then the line is refused with the text of the error.
   pub line_refused :
       (number : ℕ) (fault : TextFault) (text : List ℕ)
       → IsFaultText r.table (known number) fault text
@@ -109,7 +109,7 @@ plain_bytes : (tree : Tree) (large : Option TooLargeFor32) → bytes_for false t
 plain_bytes tree None = refl
 plain_bytes tree (Some large) = refl
 
--- The bytes of a value are the canonical ones, independently of the reader.
+-- The bytes of a value are the canonical bytes, independently of the reader.
 pub bytes_plain :
     (graph : List Obj) (root : Val) (bytes : List ℕ) → AreBytesOf false graph root (Ok bytes)
     → (tree : Tree) × IsTreeOf graph root tree × (bytes ≡ canon tree)
@@ -125,7 +125,7 @@ never_none graph root why (tree, of, is) =
     is ∙ plain_bytes tree (too_large_for_32 tree) in cc e
 
 module _ (r : Prepared) (k : ℕ) (graph : List Obj) (root : Val) where
-  -- The value lacks the type, or memory ran out.
+  -- If the check of a value fails, then the value lacks the type, or memory ran out.
   pub check_aborts :
       (known : ℕ → ℕ → List ℕ) (line : List ℕ) (number : ℕ)
       → IsText (type_over r) line (Ok (graph, root))
@@ -196,7 +196,7 @@ module _ (r : Prepared) (k : ℕ) (graph : List Obj) (root : Val) where
 -- ---- a line
 
 module _ (r : Prepared) (known : ℕ → ℕ → List ℕ) (line : List ℕ) (number k : ℕ) where
-  -- The error is propagated by `?`.
+  -- If a step fails, then `?` propagates the error of the step.
   pub line_aborts :
       (out : Change ByteState) (error : Error) (result : Result ℕ Error)
       → IsErrAnd result (λ h. h ≡ error)
@@ -206,7 +206,7 @@ module _ (r : Prepared) (known : ℕ → ℕ → List ℕ) (line : List ℕ) (nu
   line_aborts out error (Err e) is h =
       subst (AbortsBy (plain_texts (type_over r) known line) number k out) (sym is) h
 
-  -- Parsing causes an error.
+  -- If parsing a line fails, then the error ends the run.
   pub read_aborts :
       (new : List Obj) (out : ByteState) (error : Error)
       → ReadsLine (type_over r) known line number new (Err error)
@@ -232,7 +232,7 @@ module _ (r : Prepared) (known : ℕ → ℕ → List ℕ) (line : List ℕ) (nu
 
 module _ (t : TypeOver) (line : List ℕ) (number k : ℕ) (out : Change ByteState)
     (result : Result ℕ Error) where
-  -- The meaning of the line is that of its plain text, with or without decimals.
+  -- The meaning of a line is the meaning of the line's plain text, with or without decimals.
   pub line_written :
       (decimal : Bool) → t.decimal ≡ decimal
       → WritesBy (plain_texts t (known_on t.lines (decimals_if decimal line)) (plain_if decimal line))

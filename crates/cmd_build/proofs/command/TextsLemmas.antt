@@ -1,4 +1,4 @@
--- The lines so far: one more chunk without a line feed, one more line, and the end.
+-- The lines so far, after one more chunk without a line feed, after one more line, and at the end.
 use Rattle.std.proofs.Common.{◌≡◌, ℕ, suc, ◌+◌, ◌≤◌, true, List, [], ◌∷◌, ◌++◌, length, Result, Ok, Err, inl, inr, refl, sym, ap, ◌∙◌, subst, append_assoc, append-nil, length-append, arith}
 use Rattle.std.specs.Prelude.{◌&&◌, IsErrAnd, take, drop}
 use Rattle.cli_spec.specs.Outcome.{Output, all_ok}
@@ -36,7 +36,7 @@ unbroken_all : (line more : List ℕ) → IsUnbroken line → IsUnbroken more �
 unbroken_all [] more one two = two
 unbroken_all (b ∷ line) more (other, rest) two = (other, unbroken_all line more rest two)
 
--- One more line.
+-- If one more line has a meaning, then the number of texts grows by the texts of the line.
 texts_more :
     (t : TypeOver) (items : List Item) (n : ℕ) (line : List ℕ) (built : Built)
     → AreTexts declared_texts t items n → declared_texts t line built
@@ -60,7 +60,7 @@ texts_more t (text first ∷ items) n line built (is, first_of, more, texts, e) 
 length_snoc : (items : List Item) (item : Item) → length (items ++ item ∷ []) ≡ length items + 1
 length_snoc items item = length-append items (item ∷ [])
 
--- If a line ends the run, then it does so with its numbers.
+-- If a line ends the run, then the exit reason has the numbers of the line and of the text.
 pub exits_by :
     (t : TypeOver) (items : List Item) (lines k : ℕ) (built : Built) (exit : Exit)
     → lines ≡ length items → AreTexts declared_texts t items k
@@ -102,7 +102,8 @@ few_texts t (text line ∷ items) n (built, of, more, texts, e) =
 
 module _ (r : Prepared) (held : List ℕ) (lines texts : ℕ) (bytes : List ℕ) (output : List Output)
     (h : HasTexts r held lines texts bytes output) where
-  -- The bytes after the last line feed are not a complete line.
+  -- The bytes after the last line feed are no complete line, and the bytes so far contain no exit
+  -- reason.
   abbrev pub texts_hold : HaveNoExit (building declared_types declared_texts) (type_over r) bytes output
   texts_hold = record {
     items = h.items;
@@ -121,7 +122,7 @@ module _ (r : Prepared) (held : List ℕ) (lines texts : ℕ) (bytes : List ℕ)
       let long = split_long (type_over r) [] bytes h.items held h.first.split in
       let few = few_texts (type_over r) h.items texts h.are_texts in omega (arith, long, few)
 
-  -- One more chunk, without a line feed.
+  -- If a chunk has no line feed, then the chunk is appended to the buffered bytes.
   pub texts_go_on :
       (chunk kept : List ℕ) → IsUnbroken chunk → kept ≡ held ++ chunk
       → HasTexts r kept lines texts (bytes ++ chunk) (output ++ [])
@@ -141,7 +142,7 @@ module _ (r : Prepared) (held : List ℕ) (lines texts : ℕ) (bytes : List ℕ)
   }
 
   module _ (end : List ℕ) (unbroken : IsUnbroken end) where
-    -- The line, its line feed, and the bytes after it.
+    -- The buffered bytes and `end` are a line, followed by a line feed and the bytes `more`.
     abbrev whole_line : (more : List ℕ) → IsLine (held ++ (end ++ 10 ∷ more)) (held ++ end) more
     whole_line more = record {
       unbroken = unbroken_all held end h.unbroken unbroken;
@@ -161,7 +162,7 @@ module _ (r : Prepared) (held : List ℕ) (lines texts : ℕ) (bytes : List ℕ)
         bytes h.items output held (end ++ 10 ∷ more) h.first)
         (held ++ end, whole_line more, refl) (held ++ end, refl, built, of, is)
 
-    -- The line is taken.
+    -- If the output for a line was written, then the line is taken.
     pub line_taken :
         (built : Built) (next : Output) (after lines' : ℕ)
         → declared_texts (type_over r) (held ++ end) built → IsOutputOf built next
@@ -181,7 +182,7 @@ module _ (r : Prepared) (held : List ℕ) (lines texts : ℕ) (bytes : List ℕ)
           ∙ (fine_of declared_texts (type_over r) (held ++ end) built next of is).1);
     }
 
-    -- Memory ran out.
+    -- Case: memory ran out at the line.
     pub line_memory :
         (more : List ℕ) (out : Change ByteState) (exit : Exit) → exit ≡ out_of_memory
         → Writes out []
@@ -189,7 +190,7 @@ module _ (r : Prepared) (held : List ℕ) (lines texts : ℕ) (bytes : List ℕ)
         output out (aborts.Exit exit)
     line_memory more out exit is write = (texts_hold, inr is, write)
 
-    -- The line causes an error.
+    -- Case: the line causes an error.
     pub line_aborts :
         (more line : List ℕ) (number : ℕ) (out : Change ByteState) (error : Error)
         → line ≡ held ++ end → number ≡ lines + 1
@@ -265,7 +266,7 @@ module _ (r : Prepared) (held : List ℕ) (lines texts : ℕ) (bytes : List ℕ)
   ends_error_at number out aborts.WriteFault numbered (built, of, final, is, part) =
       (texts_hold, (final, (built, of, is), part))
 
--- A line causes an error, which is propagated by `?`.
+-- If a line causes an error, then `?` propagates the error.
 pub takes_error :
     (t : TypeOver) (before after : Has) (end : List ℕ) (out : Change ByteState) (error : Error)
     (result : Result (Unit {0}) Error) → IsErrAnd result (λ e. e ≡ error)
@@ -278,7 +279,7 @@ takes_error t before after end out error (Err e) is aborts =
 
 -- ---- the position of a line feed
 
--- No byte is a line feed.
+-- If no byte is a line feed, then the bytes are unbroken.
 pub unbroken_by :
     (bytes : List ℕ) → Nowhere (Passes (is_byte 10) bytes) 0 (length bytes) → IsUnbroken bytes
 unbroken_by [] none = tt
@@ -289,7 +290,7 @@ unbroken_by (b ∷ bytes) none = (first, unbroken_by bytes later) where
   later : Nowhere (Passes (is_byte 10) bytes) 0 (length bytes)
   later k low high is = none (suc k) (omega arith) (omega (arith, high)) is
 
--- The first line feed, with the bytes before and after it.
+-- The first line feed is at index `n`.
 pub record IsFeedAt (bytes : List ℕ) (n : ℕ) : Type 0 where
   pub unbroken : IsUnbroken (take n bytes)
   pub within : n + 1 ≤ length bytes

@@ -1,4 +1,4 @@
--- If the check of a table finds its names readable, then they are readable at the types of the
+-- If the check of a table finds the names readable, then the names are readable at the types of the
 -- table.
 use Rattle.std.proofs.Common.{◌≡◌, ℕ, ◌+◌, ◌<◌, ◌≤◌, ⊎_elim, Bool, true, false, List, [], ◌∷◌, length, Some, refl, sym, ap, subst, ◌∙◌, arith, get_or, lt-ltb}
 use Rattle.std.specs.Prelude.{slice_get, find, codes, Contains, unwrap_or}
@@ -84,8 +84,8 @@ encoded_more table i known this j below =
 
 -- ---- a constructor is the first one with its name and fields
 
--- If the first element that passes a test passes a stronger test too, then it is the first that
--- passes the stronger test.
+-- If the first element that passes a test passes a stronger test, then the element is the first
+-- that passes the stronger test.
 position_too : {X : Type 0} (p q : X → Bool) (xs : List X) (i : ℕ) (d : X) → ((x : X) → p x ≡ false → q x ≡ false) → position p xs ≡ Some i → q (get_or xs i d) ≡ true → position q xs ≡ Some i
 position_too p q xs i d weaker first passes =
     let f = position-Some p xs i d first in

@@ -1,4 +1,5 @@
--- The command on texts ignores each other request, and the commands on values ignore its requests.
+-- The command on texts ignores each request that is not its own, and the commands on values ignore
+-- each request of the command on texts.
 use Rattle.std.proofs.Common.{◌≡◌, ◌∙◌, ℕ, List, Some, None, Result, inl, inr, refl, sym}
 use Rattle.cli_spec.specs.Outcome.{Request, AskedType, report, get, edit, dump, compare, own, OwnRequest, Language, Task}
 use Rattle.cli_spec.specs.declared.exit.Exit.{Exit}

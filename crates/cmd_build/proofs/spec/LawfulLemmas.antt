@@ -42,7 +42,7 @@ module _ {T : Type 0} (TextOf : T → List ℕ → Built → Type 0) (type : T)
         untyped_exit : ℕ → Exit
         untyped_exit n = untyped_value n fault
 
-  -- Where the run ends, no line has an output.
+  -- If the run ends at a line, then the line has no output.
   pub output_or_stopped :
       (items : List Item) (built : Built) (output : Output) (exit : Exit)
       → IsOutputOf built output → ExitsBy TextOf type items built exit → ⊥
@@ -122,7 +122,7 @@ module _ {D T E : Type 0} (language : Language D T E) (TextOf : T → List ℕ �
     same_typed : (x y : List ℕ × AskedType) → Some x ≡ Some y → x ≡ y
     same_typed x y e = cc e
 
-    -- FILE of the arguments is the requested file.
+    -- If the arguments have FILE and a file is requested, then FILE is the requested file.
     file_is :
         (request : Request) (typed : List ℕ × AskedType) (name : List ℕ) (type : AskedType)
         → built_by request ≡ Some typed → built_by request ≡ Some (name, type) → typed.0 ≡ name
@@ -153,7 +153,7 @@ module _ {D T E : Type 0} (language : Language D T E) (TextOf : T → List ℕ �
           (same 0 typed.0 (wants_typed request typed files is)) reads,
     )
 
-    -- The file is read, or it ends the run.
+    -- The file is read, or the file ends the run.
     abbrev IsRead : Fetches → Result T Exit → ℕ → List ℕ → Type 0
     IsRead files result turn name = ((bytes : List ℕ) × (files turn name ≡ opened (whole bytes)))
         ⊎ ((exit : Exit) × ReadsFile name (files turn name) (Err exit) × (result ≡ Err exit))
@@ -186,7 +186,7 @@ module _ {D T E : Type 0} (language : Language D T E) (TextOf : T → List ℕ �
             is = refl;
           })
 
-    -- The type was read.
+    -- If a type is found, then the type was read from texts.
     given :
         (request : Request) (files : Fetches) (type : T) → Finds language TextOf request files (Ok type)
         → IsGiven language type

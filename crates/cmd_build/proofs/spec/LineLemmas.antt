@@ -1,4 +1,4 @@
--- The bytes are a line, its line feed and a rest in at most one way.
+-- The bytes are a line, the line's line feed and further bytes in at most one way.
 use Rattle.std.proofs.Common.{◌≡◌, ℕ, List, [], ◌∷◌, ◌++◌, sym, ap, ◌∙◌, subst, append_assoc}
 use Rattle.run_spec.specs.runs.Commands.{Item, text}
 use Rattle.run_spec.proofs.runs.LineLemmas.{broken, same_line}
@@ -22,7 +22,7 @@ line_stays bytes line more later h = record {
   bytes_are = ap (λ b. b ++ later) h.bytes_are ∙ append_assoc line (10 ∷ more) later;
 }
 
--- If bytes have no line feed, then they do not begin with a complete line.
+-- If bytes have no line feed, then the bytes do not begin with a complete line.
 pub unbroken_is_no_line : (bytes line more : List ℕ) → IsUnbroken bytes → IsLine bytes line more → ⊥
 unbroken_is_no_line bytes line more unbroken h =
     broken line more (subst IsUnbroken h.bytes_are unbroken)

@@ -1,4 +1,5 @@
--- Outputs for lines, by the tables: what follows for the lines, and the converse.
+-- Outputs for lines, by the tables. Outputs determine properties of the lines, and the properties
+-- determine outputs.
 use Rattle.std.proofs.Common.{◌≡◌, ◌⊎◌, ℕ, ◌+◌, Bool, true, false, List, [], ◌∷◌, ◌++◌, inl, inr, refl, ap, ◌∙◌, subst}
 use Rattle.std.specs.Prelude.{◌&&◌, ◌≢◌, ◌==◌}
 use Rattle.std.specs.Bool.{Decides}
@@ -10,12 +11,12 @@ use Rattle.cmd_build.specs.spec.Texts.{Built, blank, made, refused, untyped, cou
 use Rattle.cmd_build.specs.spec.ExitStatuses.{AreLines, IsFine}
 use Rattle.cmd_build.proofs.spec.LineLemmas.{same_text}
 
--- The lines as items.
+-- The lines, each as an item.
 abbrev pub texts : List (List ℕ) → List Item
 texts [] = []
 texts (line ∷ lines) = text line ∷ texts lines
 
--- Either there is a line feed, or there is none.
+-- The bytes have no line feed, or the bytes begin with a line and a line feed.
 pub line_or_rest :
     (bytes : List ℕ) → IsUnbroken bytes ⊎ ((line : List ℕ) × (more : List ℕ) × IsLine bytes line more)
 line_or_rest [] = inl tt
@@ -39,7 +40,7 @@ line_or_rest (b ∷ bytes) = by (nat_or b) (line_or_rest bytes) where
   )
 
 module _ {T : Type 0} (TextOf : T → List ℕ → Built → Type 0) (type : T) where
-  -- If a line has an output, then it satisfies `IsFine`, and the output is without errors.
+  -- If a line has an output, then the line satisfies `IsFine`, and the output is without errors.
   pub fine_of :
       (line : List ℕ) (built : Built) (output : Output) → TextOf type line built → IsOutputOf built output
       → IsFine TextOf type line × (output.ok ≡ true)
@@ -48,7 +49,7 @@ module _ {T : Type 0} (TextOf : T → List ℕ → Built → Type 0) (type : T) 
   fine_of line (refused refusal) output of h = absurd h
   fine_of line (untyped fault) output of h = absurd h
 
-  -- If a line satisfies `IsFine`, then it has an output.
+  -- If a line satisfies `IsFine`, then the line has an output.
   pub output_of_fine :
       (line : List ℕ) → IsFine TextOf type line
       → (built : Built) × TextOf type line built × (output : Output) × IsOutputOf built output
@@ -67,7 +68,7 @@ module _ {T : Type 0} (TextOf : T → List ℕ → Built → Type 0) (type : T) 
 
 module _ {D T E : Type 0} (language : Language D T E) (TextOf : T → List ℕ → Built → Type 0) (type : T)
   where
-    -- If items have an output, then they are lines that satisfy `IsFine`.
+    -- If items have an output, then the items are lines that satisfy `IsFine`.
     pub lines_output :
         (before : List Item) (bytes : List ℕ) (items : List Item) (output : List Output) (rest : List ℕ)
         → Split (building language TextOf) type before bytes items rest
@@ -87,7 +88,7 @@ module _ {D T E : Type 0} (language : Language D T E) (TextOf : T → List ℕ �
           ap (λ w. w && all_ok output) f.1 ∙ next.3,
         )
 
-    -- If lines satisfy `IsFine`, then they have an output.
+    -- If lines satisfy `IsFine`, then the lines have an output.
     pub output_of_lines :
         (before : List Item) (bytes : List ℕ) (lines : List (List ℕ)) (rest : List ℕ)
         → AreLines bytes lines rest → AllByRecursion (IsFine TextOf type) lines

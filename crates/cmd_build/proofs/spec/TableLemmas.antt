@@ -18,7 +18,7 @@ use Rattle.cmd_build.proofs.spec.LineLemmas.{unbroken_is_no_line}
 use Rattle.cmd_build.proofs.spec.OutputLemmas.{texts, line_or_rest, fine_of, output_of_fine, counts_of, lines_output, output_of_lines}
 
 module _ {T : Type 0} (TextOf : T → List ℕ → Built → Type 0) (type : T) where
-  -- If a line ends the run, then this is a row of the table.
+  -- If a line ends the run, then the exit reason's status is a row of the table.
   break_of :
       (items : List Item) (line : List ℕ) (built : Built) (exit : Exit) → TextOf type line built
       → ExitsBy TextOf type items built exit → Break TextOf type line (status_of exit)
@@ -44,7 +44,7 @@ module _ {T : Type 0} (TextOf : T → List ℕ → Built → Type 0) (type : T) 
       (exit, refl, refused refusal, of, refl)
   exit_of lines line status fine h = absurd h
 
-  -- The reply to the last line determines its status.
+  -- If `last` is the reply to the last line, then the reply determines the status of the run.
   end_of :
       (items : List Item) (line : List ℕ) (built : Built) (output : List Output) (last : Reply)
       → all_ok output ≡ true → TextOf type line built → IsReplyTo TextOf type items built last
@@ -133,7 +133,7 @@ module _ {D T E : Type 0} (language : Language D T E) (TextOf : T → List ℕ �
     }
     by ends (inr (line, more, is)) = absurd (h.goes_on.no_item (text_item line) more (line, is, refl))
 
-  -- If the rest has no line feed, then the run continues.
+  -- If the remaining bytes have no line feed, then the run continues.
   pub goes_on :
       (type : T) (items : List Item) (rest : List ℕ) → IsUnbroken rest
       → GoesOn (building language TextOf) type items rest
@@ -218,7 +218,7 @@ module _ {D T E : Type 0} (language : Language D T E) (TextOf : T → List ℕ �
     bar_of : (exit : Exit) → Finds language TextOf request files (Err exit) → BarBy exit
     bar_of exit (typed, is, reads) = type_bar typed.0 typed.1 is exit reads
 
-    -- An exit reason with this status comes before the input is read.
+    -- The request leads to an exit reason with the given status before the input is read.
     abbrev HasExitBefore : Status → Type 0
     HasExitBefore status =
         (exit : Exit) × (status_of exit ≡ status) × Finds language TextOf request files (Err exit)

@@ -1,4 +1,4 @@
--- The errors of a plain text, mapped to the line with decimals from which it comes.
+-- The errors of a plain text, mapped to the line with decimals from which the plain text comes.
 use Rattle.std.specs.Prelude.{List}
 use Rattle.types_lex.specs.declared.lexeme.LexFault.{LexFault}
 use Rattle.types_lex.specs.declared.lexeme.LexFault.TheVariants as lexer

@@ -26,9 +26,9 @@ use Rattle.run_types.specs.Language.{TypeOver}
 use Rattle.cmd_build.specs.spec.Texts.{Built, blank, made, refused, untyped}
 
 module _ (t : TypeOver) where
-  -- The lexemes are a literal at the type, and its value has these objects. Or they are no literal,
-  -- or none of the type, and this is the first error. Positions are byte offsets; the end of the
-  -- text is one.
+  -- If the answer is a value, the lexemes are a literal at the type, and the literal's value has
+  -- the given objects. If the answer is an error, the lexemes are no literal of the type, and the
+  -- error is the first one. Positions are byte offsets, also the end of the text.
   abbrev pub AreText : List Lexeme → ℕ → Answer Ty → Type 0
   AreText lexemes end (Ok built) =
       IsLiteral (shape t.decls) (names_of t.decls) t.type lexemes 0 built.0 built.1
@@ -39,15 +39,15 @@ module _ (t : TypeOver) where
   AreText lexemes end (Err reason) = ⊥
 
   module _ (line : List ℕ) where
-    -- The line has lexemes, and this is their meaning.
+    -- The line has lexemes whose meaning is the answer `answer`.
     pub record IsText (answer : Answer Ty) : Type 0 where
       pub lexemes : List Lexeme
       pub lexes : Lexes line lexemes
       pub some : lexemes ≢ []
       pub are : AreText lexemes (length line) answer
 
-    -- The line denotes a value that has the type and each of its closed instances, and these are
-    -- the value's canonical bytes.
+    -- The line denotes a value that has the type and each closed instance of the type, and `bytes`
+    -- are the value's canonical bytes.
     pub record IsMade (bytes : List ℕ) : Type 0 where
       pub graph : List Obj
       pub root : Val
@@ -58,8 +58,8 @@ module _ (t : TypeOver) where
       pub of : IsTreeOf graph root tree
       pub are : bytes ≡ canon tree
 
-    -- The line denotes a value that lacks the type and some closed instance of it, and this is the
-    -- line of the first fault.
+    -- The line denotes a value that lacks the type and some closed instance of the type, and
+    -- `fault` is the output line of the first fault.
     pub record IsUntyped (fault : List ℕ) : Type 0 where
       pub graph : List Obj
       pub root : Val
@@ -76,7 +76,7 @@ module _ (t : TypeOver) where
         ⊎ ((reason : Reason Ty) × IsText (Err reason)
         × (refusal ≡ λ number. literal_text type_text (known number) reason))
 
--- The meaning of a line without decimals, for this form of positions.
+-- The meaning of a line without decimals, where `known` is the form of positions.
 abbrev pub plain_texts : TypeOver → (known : ℕ → ℕ → List ℕ) → List ℕ → Built → Type 0
 plain_texts t known line blank = Lexes line []
 plain_texts t known line (made bytes) = IsMade t line bytes
@@ -85,20 +85,20 @@ plain_texts t known line (untyped fault) = IsUntyped t line fault
 
 -- ---- decimals
 
--- If decimals may denote doubles: the decimals of a line, and its plain text.
+-- The decimals of a line, if decimals may denote doubles.
 abbrev pub decimals_if : Bool → List ℕ → List Decimal
 decimals_if decimal line = if decimal then decimals_in line else []
 
 abbrev pub plain_if : Bool → List ℕ → List ℕ
 plain_if decimal line = if decimal then plain_text line else line
 
--- A position in the plain text is reported as the position in the line, which has these decimals
--- and this number.
+-- The text of a position in the plain text, reported as a position in the line with the given
+-- decimals and number.
 abbrev pub known_on : (lines : Bool) → List Decimal → (number : ℕ) → ℕ → List ℕ
 known_on lines decimals number =
     λ position. position_on lines number (given_position decimals position)
 
--- The meaning of a line.
+-- The meaning of a line of the input, in which decimals may occur.
 abbrev pub declared_texts : TypeOver → List ℕ → Built → Type 0
 declared_texts t line built =
     plain_texts t (known_on t.lines (decimals_if t.decimal line)) (plain_if t.decimal line) built

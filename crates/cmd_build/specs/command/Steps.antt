@@ -28,21 +28,23 @@ use Rattle.cmd_build.specs.spec.Texts.{Built, blank, made, refused, untyped, cou
 use Rattle.cmd_build.specs.spec.Texts.{IsOutputOf, AreTexts, building}
 use Rattle.cmd_build.specs.command.Lines.{declared_texts, plain_texts, IsText}
 
--- The text of an error, for this form of positions. Running out of memory has no text.
+-- The text of an error, where `known` is the form of positions. If the error is that memory ran
+-- out, there is no text.
 abbrev pub IsFaultText : Tabled → (known : ℕ → List ℕ) → TextFault → List ℕ → Type 0
 IsFaultText table known (faults.Lex fault) text = text ≡ lexer_text known fault
 IsFaultText table known (faults.Literal fault) text =
     text ≡ literal_or_none (text_at table) known (literal_reason fault)
 IsFaultText table known faults.Memory text = ⊥
 
--- Line `line`, after `k` texts, ends the run with this exit reason.
+-- Line `line`, after `k` texts, ends the run with the exit reason `exit`.
 abbrev pub IsExitAt : ℕ → ℕ → Built → Exit → Type 0
 IsExitAt line k blank exit = ⊥
 IsExitAt line k (made bytes) exit = ⊥
 IsExitAt line k (refused refusal) exit = exit ≡ text_line line (refusal line)
 IsExitAt line k (untyped fault) exit = exit ≡ untyped_value k fault
 
--- The text is blank, or denotes a value with these objects. Or the run ends at the line.
+-- If the result is ok, the text is blank, or denotes a value with the new objects. If the result is
+-- an error, the run ends at the line.
 abbrev pub ReadsLine : TypeOver → (known : ℕ → ℕ → List ℕ) → List ℕ → ℕ → List Obj
     → Result (Option Val) Error → Type 0
 ReadsLine t known text line new (Ok None) = plain_texts t known text blank
@@ -54,8 +56,9 @@ ReadsLine t known text line new (Err (aborts.Exit exit)) =
     × (exit ≡ text_line line (refusal line))) exit
 ReadsLine t known text line new (Err aborts.WriteFault) = ⊥
 
--- The meaning of the line is an error, reported with the numbers of the line and of its text, and
--- nothing is written. Or writing the output fails.
+-- If the error is an exit reason, nothing is written. The exit reason is that of the line, with the
+-- numbers of the line and of its text. Running out of memory is also possible. If the error is a
+-- write fault, only a part of the line's output is written.
 abbrev pub AbortsBy : (Of : Built → Type 0) → ℕ → ℕ → Change ByteState → Error → Type 0
 AbortsBy Of line k out (aborts.Exit exit) =
     OrMemory (λ exit. (built : Built) × Of built × IsExitAt line k built exit) exit × Writes out []
@@ -63,7 +66,8 @@ AbortsBy Of line k out aborts.WriteFault =
     (built : Built) × Of built × (output : Output) × IsOutputOf built output
     × WritesPart out output.text
 
--- The bytes of the value are written. Or the run ends, or writing the output fails.
+-- If the result is ok, the bytes of the value are written. If the result is an error, the run ends,
+-- or writing the output fails.
 abbrev pub WritesValue : {U : Type 0} → (Of : Built → Type 0) → ℕ → ℕ → Change ByteState
     → Result U Error → Type 0
 WritesValue Of line k out (Ok unit) = (bytes : List ℕ) × Of (made bytes) × Writes out bytes
@@ -77,15 +81,15 @@ WritesBy Of line k out (Ok texts) =
     × (texts ≡ k + counted built)
 WritesBy Of line k out (Err error) = AbortsBy Of line k out error
 
--- The same, for the line at the type.
+-- The statement `AbortsBy` for the meaning of the line at the type.
 abbrev pub AbortsAtLine : TypeOver → List ℕ → ℕ → ℕ → Change ByteState → Error → Type 0
 AbortsAtLine t text line k out error = AbortsBy (declared_texts t text) line k out error
 
 abbrev pub WritesLine : TypeOver → List ℕ → ℕ → ℕ → Change ByteState → Result ℕ Error → Type 0
 WritesLine t text line k out result = WritesBy (declared_texts t text) line k out result
 
--- The lines in these bytes were taken without errors, and this is their output. The bytes after the
--- last line feed are buffered.
+-- The lines in the bytes `bytes` were taken without errors, and `output` is the output for the
+-- lines. The bytes after the last line feed are buffered.
 pub record HasTexts (requested : Prepared) (held : List ℕ) (lines texts : ℕ) (bytes : List ℕ)
     (output : List Output) : Type 0 where
   pub ready : IsReady requested
@@ -98,7 +102,8 @@ pub record HasTexts (requested : Prepared) (held : List ℕ) (lines texts : ℕ)
   pub are_texts : AreTexts declared_texts (type_over requested) items texts
   pub ok : all_ok output ≡ true
 
--- A line ends with these bytes and a line feed, and its output is written. Or it causes an error.
+-- If the result is ok, a line ends with the bytes `end` and a line feed, and the line's output is
+-- written. If the result is an error, the line causes the error.
 abbrev pub TakesLine : {U : Type 0} → TypeOver → Has → Has → List ℕ → Change ByteState
     → Result U Error → Type 0
 TakesLine t before after end out (Ok unit) =

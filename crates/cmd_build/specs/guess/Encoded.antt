@@ -32,7 +32,7 @@ AreConstructorNames names =
     (tag : ℕ) (constr : ConstrNames) → slice_get names.constructors tag ≡ Some constr
     → IsConstructorName names tag constr
 
--- The names are readable, and there are no tags.
+-- The names of the type are readable, and the type has no tags.
 abbrev pub IsEncoded : {T : Type 0} → ShapeOf T → Names → Type 0
 IsEncoded (shapes.Poly tags) names = names.tags ≡ []
 IsEncoded shape names = IsReadable shape names
@@ -41,7 +41,7 @@ abbrev pub AreEncoded : Tabled → Type 0
 AreEncoded table =
     (i : ℕ) → i < length table.nodes → IsEncoded (shape_in table i) (names_in table i)
 
--- If the names in a table are readable, then they are readable at the types of the table.
+-- If the names in a table are readable, then the names are readable at the types of the table.
 abbrev pub EncodedAreReadable : Type 0
 EncodedAreReadable =
     (decls : List Decl) (t : Ty) (table : Tabled) → IsTypeTable decls t table

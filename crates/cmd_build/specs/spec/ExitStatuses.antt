@@ -28,7 +28,7 @@ use Rattle.run_spec.specs.exit_statuses.Stages.{IsRefusedType}
 use Rattle.cmd_build.specs.spec.Texts.{Built, blank, made, refused, untyped, IsUnbroken, IsLine}
 use Rattle.cmd_build.specs.spec.Texts.{built_by}
 
--- The bytes are these lines, each with its line feed, followed by the rest.
+-- The bytes are the given lines, each with a line feed, followed by the remaining bytes.
 abbrev pub AreLines : List ℕ → List (List ℕ) → List ℕ → Type 0
 AreLines bytes [] rest = bytes ≡ rest
 AreLines bytes (line ∷ lines) rest =
@@ -39,14 +39,14 @@ module _ {T : Type 0} (TextOf : T → List ℕ → Built → Type 0) (type : T) 
   abbrev pub IsFine : List ℕ → Type 0
   IsFine line = TextOf type line blank ⊎ ((bytes : List ℕ) × TextOf type line (made bytes))
 
-  -- After lines that satisfy `IsFine`, this line ends the run with this status.
+  -- After lines that satisfy `IsFine`, the given line ends the run with the given status.
   abbrev pub Break : List ℕ → Status → Type 0
   Break line No = (fault : List ℕ) × TextOf type line (untyped fault)
   Break line Script = (refusal : ℕ → List ℕ) × TextOf type line (refused refusal)
   Break line status = ⊥
 
-  -- The bytes begin with lines that satisfy `IsFine`, and the next line ends the run with this
-  -- status.
+  -- The bytes begin with lines that satisfy `IsFine`, and the next line ends the run with the
+  -- status `status`.
   pub record HoldBreak (bytes : List ℕ) (status : Status) : Type 0 where
     pub lines : List (List ℕ)
     pub rest : List ℕ
@@ -58,7 +58,7 @@ module _ {T : Type 0} (TextOf : T → List ℕ → Built → Type 0) (type : T) 
     pub breaks : Break line status
 
   -- The bytes are lines that satisfy `IsFine`, and a last line without a line feed. The last line
-  -- satisfies `IsFine` too, or it ends the run with this status.
+  -- satisfies `IsFine` too, or ends the run with the status `status`.
   pub record AreEnded (bytes : List ℕ) (status : Status) : Type 0 where
     pub lines : List (List ℕ)
     pub last : List ℕ
@@ -68,7 +68,7 @@ module _ {T : Type 0} (TextOf : T → List ℕ → Built → Type 0) (type : T) 
     pub ends : (IsFine last × (status ≡ AllOk)) ⊎ Break last status
 
 module _ {D T E : Type 0} (language : Language D T E) (TextOf : T → List ℕ → Built → Type 0) where
-  -- FILE is read, and its contents or TYPE are refused.
+  -- FILE is read, and the contents of FILE or TYPE are refused.
   pub record RefusesTypes (request : Request) (files : Fetches) : Type 0 where
     pub name : List ℕ
     pub type : AskedType
@@ -77,7 +77,7 @@ module _ {D T E : Type 0} (language : Language D T E) (TextOf : T → List ℕ �
     pub read : files 0 name ≡ opened (whole text)
     pub is_refused : IsRefusedType language text type
 
-  -- FILE is not read to its end, and the exit reason has this status.
+  -- FILE is not read to its end, and the exit reason has the status `status`.
   pub record IsUnread (request : Request) (files : Fetches) (status : Status) : Type 0 where
     pub name : List ℕ
     pub type : AskedType
@@ -86,7 +86,7 @@ module _ {D T E : Type 0} (language : Language D T E) (TextOf : T → List ℕ �
     pub fault : ReadsFile name (files 0 name) (Err exit)
     pub is : status_of exit ≡ status
 
-  -- The request and its fetched file end the run before the input is read, with this status.
+  -- The request and its fetched file end the run with the given status before the input is read.
   abbrev pub Bar : Request → Fetches → Status → Type 0
   Bar request files Types = RefusesTypes request files
   Bar request files ReadFault = IsUnread request files ReadFault

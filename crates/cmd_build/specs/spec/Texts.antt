@@ -1,5 +1,5 @@
 -- The command on the texts of the input, in the general form: an item is a line with its line feed.
--- A line is blank, or it is a text, which becomes bytes.
+-- A line is blank, or is a text, which becomes bytes.
 use Rattle.std.specs.Prelude.{ℕ, suc, ◌+◌, ◌≡◌, ◌≢◌, true, List, [], ◌∷◌, ◌++◌, length, Option}
 use Rattle.std.specs.Prelude.{Some, None, Result}
 use Rattle.std.specs.List.{AllByRecursion}
@@ -27,11 +27,11 @@ pub data Built : Type 0 where
 
 -- ---- lines
 
--- There is no line feed in the bytes.
+-- The bytes contain no line feed.
 abbrev pub IsUnbroken : List ℕ → Type 0
 IsUnbroken bytes = AllByRecursion (λ b. b ≢ 10) bytes
 
--- The bytes are a line, its line feed, and the rest.
+-- The bytes are a line, the line's line feed, and the bytes `more`.
 pub record IsLine (bytes line more : List ℕ) : Type 0 where
   pub unbroken : IsUnbroken line
   pub bytes_are : bytes ≡ line ++ 10 ∷ more
@@ -48,7 +48,7 @@ counted (made bytes) = 1
 counted (refused refusal) = 1
 counted (untyped fault) = 1
 
--- The output that consists of these bytes and has no error.
+-- The output that consists of the given bytes and has no error.
 abbrev pub write_bytes : List ℕ → Output
 write_bytes bytes = record { text = bytes; ok = true }
 
@@ -68,8 +68,8 @@ module _ {T : Type 0} (TextOf : T → List ℕ → Built → Type 0) (type : T) 
       (built : Built) × TextOf type line built × (more : ℕ) × AreTexts items more
       × (n ≡ counted built + more)
 
-  -- After these lines, the next one ends the run with this exit reason. Lines are counted from 1,
-  -- and texts from 0.
+  -- After the lines `items`, the next line ends the run with the exit reason. Lines are counted
+  -- from 1, and texts from 0.
   abbrev pub ExitsBy : List Item → Built → Exit → Type 0
   ExitsBy items blank exit = ⊥
   ExitsBy items (made bytes) exit = ⊥
@@ -84,7 +84,7 @@ module _ {T : Type 0} (TextOf : T → List ℕ → Built → Type 0) (type : T) 
       (line : List ℕ) × (item ≡ text line) × (built : Built) × TextOf type line built
       × IsOutputOf built output
 
-  -- The bytes begin with a line that ends the run, and its line feed.
+  -- The bytes begin with a line that ends the run, and the line's line feed.
   abbrev pub ExitsAtLine : List Item → List ℕ → Exit → Type 0
   ExitsAtLine items bytes exit =
       (line : List ℕ) × (more : List ℕ) × IsLine bytes line more
@@ -95,7 +95,7 @@ module _ {T : Type 0} (TextOf : T → List ℕ → Built → Type 0) (type : T) 
   IsReplyTo items built (outputs output) = IsOutputOf built output
   IsReplyTo items built (exits exit) = ExitsBy items built exit
 
-  -- The last line needs no line feed.
+  -- The last bytes of the input are a line without a line feed, to which `last` is the reply.
   abbrev pub EndsWithLine : List Item → List ℕ → Reply → Type 0
   EndsWithLine items bytes last =
       (built : Built) × TextOf type bytes built × IsReplyTo items built last
@@ -113,7 +113,7 @@ module _ {D T E : Type 0} (language : Language D T E) (TextOf : T → List ℕ �
   Wants request files turn name =
       (turn ≡ 0) × (type : AskedType) × (built_by request ≡ Some (name, type))
 
-  -- TYPE is found in the same way as for all commands.
+  -- TYPE is found as for the commands on values.
   abbrev pub Finds : Request → Fetches → Result T Exit → Type 0
   Finds request files result =
       (typed : List ℕ × AskedType) × (built_by request ≡ Some typed)
@@ -130,6 +130,6 @@ module _ {D T E : Type 0} (language : Language D T E) (TextOf : T → List ℕ �
     Ends = λ type. EndsWithLine TextOf type;
   }
 
-  -- At each type that is read from texts, each line has at most one reading.
+  -- If a type is read from texts, then each line has at most one reading at the type.
   abbrev pub IsReadOnce : Type 0
   IsReadOnce = (type : T) → IsGiven language type → (line : List ℕ) → IsOnce (TextOf type line)

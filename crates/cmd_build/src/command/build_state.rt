@@ -1,6 +1,6 @@
-//! The lines of the input, one by one, while its bytes arrive.
+//! The state of the command `build` while the bytes of the input arrive.
 
-ghost use Rattle.std.specs.Prelude.{◌≡◌, ◌++◌, ◌+◌, ◌<◌, ◌^◌, ℕ, List, [], length, OnOk};
+ghost use Rattle.std.specs.Prelude.{◌≡◌, ◌+◌, ◌<◌, ◌^◌, ℕ, List, [], length};
 ghost use Rattle.cli_spec.specs.Outcome.{Output};
 ghost use Rattle.base_io.specs.State.{change};
 ghost use Rattle.run_types.specs.Types.{type_over};
@@ -8,7 +8,7 @@ ghost use Rattle.cmd_build.specs.spec.Texts.{IsUnbroken};
 ghost use Rattle.cmd_build.specs.command.Steps.{HasTexts, TakesLine};
 
 use crate::command::line::write_line;
-use base_data::model::Memory;
+use base_data::text::write;
 use base_io::Sink;
 use cli_errors::exit::Error;
 use marshal_heap::heap::Heap;
@@ -19,16 +19,9 @@ use std::alloc::Global;
 
 const LINE_FEED: u8 = 10;
 
-/// Appends bytes.
-fn keep(held: &mut Vec<u8>, bytes: &[u8]) -> Result<(), Memory>
-    ensures { OnOk result (held.new.items ≡ held.old.items ++ bytes.now) }
-{
-    Ok(held.extend_from_slice(bytes)?)
-}
-
 /// The state of the command: the number of lines and of texts so far, and the bytes after the last
-/// line feed. One line is buffered at a time. The value of a text, and its plain text, reuse the
-/// memory of the previous ones.
+/// line feed. One line is buffered at a time. The value and the plain text of a line reuse the
+/// memory of the previous line.
 #[derive(Drop)]
 pub struct BuildState<'a> {
     requested: &'a Requested,
@@ -69,7 +62,7 @@ impl<'a> BuildState<'a> {
             (HasTexts self.new.requested.now self.new.held.items self.new.lines self.new.texts)
             end.now (change (K.state out.old) (K.state out.new)) result }
     {
-        keep(&mut self.held, end)?;
+        write(&mut self.held, end)?;
         let line = self.held.as_slice();
         self.texts = write_line(
             alloc,
@@ -104,20 +97,15 @@ impl Work for BuildState<'_> {
         true
     }
 
-    fn feed<K: Sink>(
-        &mut self,
-        alloc: Global,
-        buffered: &[u8],
-        out: &mut K,
-    ) -> Result<usize, Error> {
-        match memchr(LINE_FEED, buffered) {
+    fn feed<K: Sink>(&mut self, alloc: Global, chunk: &[u8], out: &mut K) -> Result<usize, Error> {
+        match memchr(LINE_FEED, chunk) {
             Some(n) => {
-                self.take_line(alloc, &buffered[..n], out)?;
+                self.take_line(alloc, &chunk[..n], out)?;
                 Ok(n + 1)
             }
             None => {
-                keep(&mut self.held, buffered)?;
-                Ok(buffered.len())
+                write(&mut self.held, chunk)?;
+                Ok(chunk.len())
             }
         }
     }

@@ -17,8 +17,8 @@ use text_roundtrip::text::TextFault;
 use types_table::type_table::TypeTable;
 use types_wellformed::declarations::lexer_text;
 
-/// Returns the text of an error in the line with this number. If `lines` is true, positions are
-/// reported by line and column. Returns `Memory` if the error is that memory ran out.
+/// Returns the text of an error in the line with the number `number`. If `lines` is true, positions
+/// are reported by line and column. Returns `Memory` if the error is that memory ran out.
 fn placed_fault_text(
     alloc: Global,
     table: &TypeTable,

@@ -1,4 +1,4 @@
-//! Maps the errors of a plain text to the line with decimals from which it comes.
+//! Maps the errors of a plain text to the line with decimals from which the plain text comes.
 
 ghost use Rattle.std.specs.Prelude.{◌≡◌, ◌^◌, IfOk};
 ghost use Rattle.text_decimal.specs.texts.Plain.{given_position as position_in_line, AreWithin};
@@ -24,7 +24,7 @@ fn given(decimals: &[Decimal], position: usize) -> Result<usize, Memory>
     Ok(given_position(decimals, position))
 }
 
-/// Maps a lexical error.
+/// Maps a lexical error of the plain text to the line.
 fn given_lexer(decimals: &[Decimal], fault: LexFault) -> Result<LexFault, Memory>
     requires { AreWithin 0 decimals.now (2 ^ 63) }
     ensures { IfOk result (λ found. found ≡ lexer_in_line decimals.now fault) }
@@ -38,7 +38,7 @@ fn given_lexer(decimals: &[Decimal], fault: LexFault) -> Result<LexFault, Memory
     }
 }
 
-/// Maps an offset of a literal.
+/// Maps an offset in a literal of the plain text to an offset in the line.
 fn given_byte(decimals: &[Decimal], position: u64) -> Result<u64, Memory>
     requires { AreWithin 0 decimals.now (2 ^ 63) }
     ensures { IfOk result (λ found. found ≡ position_in_line decimals.now position) }
@@ -46,7 +46,7 @@ fn given_byte(decimals: &[Decimal], position: u64) -> Result<u64, Memory>
     Ok(given(decimals, position as usize)? as u64)
 }
 
-/// Maps an error of a literal.
+/// Maps an error of a literal in the plain text to the line.
 fn given_literal(decimals: &[Decimal], fault: LiteralFault) -> Result<LiteralFault, Memory>
     requires { AreWithin 0 decimals.now (2 ^ 63) }
     ensures { IfOk result (λ found. found ≡ literal_in_line decimals.now fault) }
@@ -64,7 +64,7 @@ fn given_literal(decimals: &[Decimal], fault: LiteralFault) -> Result<LiteralFau
     }
 }
 
-/// Maps an error of the plain text to the line, which has these decimals.
+/// Maps an error of the plain text to the line, whose decimals are `decimals`.
 pub fn given_fault(decimals: &[Decimal], fault: TextFault) -> Result<TextFault, Memory>
     requires { AreWithin 0 decimals.now (2 ^ 63) }
     ensures { IfOk result (λ found. found ≡ fault_in_line decimals.now fault) }

@@ -1,5 +1,5 @@
-//! Fast path for long texts that `show` wrote: guesses a value, and keeps it only if it has the
-//! type and its text is the line.
+//! Fast path for long texts that `show` wrote. The fast path guesses a value, and keeps the value
+//! only if the value has the type and its text is the line.
 
 ghost use Rattle.std.specs.Prelude.{IfOk, IfSome, IsTrue};
 ghost use Rattle.types_spec.specs.types.Table.{table_shapes};
@@ -23,7 +23,7 @@ use types_table::type_table::TypeTable;
 use types_theory::table::tables_decide;
 
 /// The least number of bytes of a text for each type of the table. The guess searches the whole
-/// table, so shorter texts are not guessed.
+/// table, which is why shorter texts are not guessed.
 const BYTES_A_TYPE: usize = 64;
 
 /// Returns true if the text is long compared to the table, and the names of the table can be read
@@ -34,7 +34,7 @@ fn is_worth_it(table: &TypeTable, line: &[u8]) -> bool
     line.len() / BYTES_A_TYPE >= table.len() && is_encoded(table)
 }
 
-/// Returns true if the value has the type.
+/// Returns true if the value has the requested type.
 fn is_typed(alloc: Global, value: &Rooted<'_>, requested: &Requested) -> Result<bool, Memory>
     ensures { IfOk result
         (λ typed. IsTrue typed
@@ -47,8 +47,8 @@ fn is_typed(alloc: Global, value: &Rooted<'_>, requested: &Requested) -> Result<
     }
 }
 
-/// Returns true if a value that has the type is denoted by the line, that is, if its text is the
-/// line.
+/// Returns true if the text of a value that has the type is the line. If the result is true, the
+/// line denotes the value.
 fn is_known(
     alloc: Global,
     value: &Rooted<'_>,
@@ -75,7 +75,7 @@ fn is_known(
     has_text(alloc, value, requested.table(), line)
 }
 
-/// Returns true if the value has the type and its text is the line.
+/// Returns true if the value has the type and the value's text is the line.
 fn is_right(
     alloc: Global,
     value: &Rooted<'_>,
@@ -93,8 +93,8 @@ fn is_right(
     is_known(alloc, value, requested, line)
 }
 
-/// Guesses the value that a line denotes, and stores its objects in `heap`. Returns `None` if the
-/// guess fails; then the line must be parsed.
+/// Guesses the value that a line denotes, and stores the value's objects in `heap`. Returns `None`
+/// if the guess fails. If the guess fails, the caller must parse the line.
 pub fn guess_line(
     alloc: Global,
     heap: &mut Heap,

@@ -1,4 +1,4 @@
-//! The laws. The functions do nothing and exist only for their contracts.
+//! The law about lines at declared types, as the contract of a lemma function without a body.
 
 ghost use Rattle.std.specs.Prelude.{List};
 ghost use Rattle.types_spec.specs.declared.types.decl.Decl.{Decl};

@@ -1,4 +1,4 @@
-//! Writes one line as the value that it denotes at the type.
+//! Writes a line of the input as the value that the line denotes at the type.
 
 ghost use Rattle.std.specs.Prelude.{ℕ, ◌+◌, ◌^◌, ◌<◌, List, Ok};
 ghost use Rattle.base_io.specs.State.{change};
@@ -22,8 +22,8 @@ use text_decimal::texts::{Decimal, write_plain_text};
 use text_literal::agreement::tables_read_agree;
 use text_roundtrip::text::{TextFault, read_text};
 
-/// Parses the plain text of the line with this number, which has these decimals. Returns `None` if
-/// the text is blank. An error ends the run.
+/// Parses the plain text of a line, given the line's number and decimals. Returns `None` if the
+/// text is blank. An error ends the run.
 fn read_line(
     alloc: Global,
     heap: &mut Heap,
@@ -49,8 +49,8 @@ fn read_line(
     }
 }
 
-/// Writes the bytes of a value that has the type. Otherwise ends the run with the error for the
-/// text with this number.
+/// Writes the bytes of a value that has the type. If the value lacks the type, ends the run with
+/// the error for the text with the given number.
 fn write_value<K: Sink>(
     alloc: Global,
     value: &Rooted<'_>,
@@ -67,8 +67,8 @@ fn write_value<K: Sink>(
     write_plain(alloc, value, number, out)
 }
 
-/// Parses and writes a text, that of the line with this number, after `texts` earlier texts.
-/// Returns the new number of texts.
+/// Parses the text of a line with the given number, and writes its value, after `texts` earlier
+/// texts. Returns the new number of texts.
 fn write_read<K: Sink>(
     alloc: Global,
     heap: &mut Heap,
@@ -111,8 +111,8 @@ fn write_right<K: Sink>(
     Ok(texts + 1)
 }
 
-/// Writes the plain text of the line with this number, which has these decimals. Returns the new
-/// number of texts.
+/// Writes the plain text of a line, given the line's number and decimals. Returns the new number of
+/// texts.
 fn write_text<K: Sink>(
     alloc: Global,
     heap: &mut Heap,
@@ -135,8 +135,8 @@ fn write_text<K: Sink>(
     }
 }
 
-/// Writes the line with this number, in which decimals may denote doubles. Its plain text reuses
-/// the memory of the previous one.
+/// Writes a line in which decimals may denote doubles, given the line's number. The line's plain
+/// text reuses the memory of the previous plain text.
 fn write_given<K: Sink>(
     alloc: Global,
     heap: &mut Heap,
@@ -166,8 +166,8 @@ fn write_given<K: Sink>(
     )
 }
 
-/// Writes the line with this number, after `texts` earlier texts. Returns the new number of texts.
-/// An error ends the run.
+/// Writes a line, given the line's number, after `texts` earlier texts. Returns the new number of
+/// texts. An error ends the run.
 pub fn write_line<K: Sink>(
     alloc: Global,
     heap: &mut Heap,

@@ -1,4 +1,5 @@
-//! Checks whether the names of types are readable: the text of a value can be parsed again.
+//! Checks whether the names of types are readable, which means that the text of a value can be
+//! parsed again.
 
 ghost use Rattle.std.specs.Prelude.{ℕ, List as Seq, ◌≡◌, ◌<◌, Some, IsTrue, codes, length};
 ghost use Rattle.std.specs.Prelude.{slice_get};
@@ -13,23 +14,10 @@ ghost use Rattle.cmd_build.specs.guess.Encoded.{IsNoKeyword, AreConstantNames, A
 ghost use Rattle.cmd_build.specs.guess.Encoded.{IsEncoded, AreEncoded, has_name};
 
 use base_data::model::list::List;
+use types_lex::bytes::{is_name_byte, starts_lower};
 use types_spec::types::names::{ConstrNames, Names};
 use types_spec::types::shape::ShapeOf;
 use types_table::type_table::TypeTable;
-
-/// Returns true if a lower-case name may begin with this byte.
-fn starts_lower(b: u8) -> bool
-    ensures { result ≡ starts_lower b }
-{
-    b.is_ascii_lowercase() || b == b'_'
-}
-
-/// Returns true if a name may continue with this byte.
-fn is_name_byte(b: u8) -> bool
-    ensures { result ≡ is_name_byte b }
-{
-    b.is_ascii_alphanumeric() || b == b'_' || b == b'\''
-}
 
 /// Returns true if a word is not a keyword.
 fn is_no_keyword(name: &[u8]) -> bool
@@ -48,7 +36,7 @@ fn are_name_bytes(name: &[u8]) -> bool
     name.iter().all(|b| is_name_byte(*b))
 }
 
-/// Returns true if this is a lower-case name.
+/// Returns true if `name` is a lower-case name.
 fn is_lower(name: &[u8]) -> bool
     ensures { IsTrue result → IsForm (Lower name.now) }
 {
@@ -64,7 +52,7 @@ fn is_lower(name: &[u8]) -> bool
     false
 }
 
-/// Returns true if this is an upper-case name.
+/// Returns true if `name` is an upper-case name.
 fn is_upper(name: &[u8]) -> bool
     ensures { IsTrue result → IsForm (Upper name.now) }
 {
@@ -78,21 +66,21 @@ fn is_upper(name: &[u8]) -> bool
     false
 }
 
-/// Returns true if this is the name `::` of non-empty lists.
+/// Returns true if `name` is the name `::` of non-empty lists.
 fn is_cons(name: &[u8]) -> bool
     ensures { result ≡ bytes_eq name.now (codes "::") }
 {
     name == b"::".as_slice()
 }
 
-/// Returns true if this is the name `[]` of the empty list.
+/// Returns true if `name` is the name `[]` of the empty list.
 fn is_empty_list(name: &[u8]) -> bool
     ensures { result ≡ bytes_eq name.now (codes "[]") }
 {
     name == b"[]".as_slice()
 }
 
-/// Returns true if this is the name of a constructor other than `ref`.
+/// Returns true if `name` is the name of a constructor other than `ref`.
 fn is_head(name: &[u8]) -> bool
     ensures { IsTrue result → IsHead name.now }
 {
@@ -105,7 +93,7 @@ fn is_head(name: &[u8]) -> bool
     is_empty_list(name)
 }
 
-/// Returns true if these are lower-case names.
+/// Returns true if all names in `fields` are lower-case names.
 fn are_fields(fields: &[List<u8>]) -> bool
     ensures { IsTrue result → AreFieldNames fields.now }
 {
@@ -154,7 +142,7 @@ fn is_constant(names: &Names, i: usize) -> bool
     is_head(name) && is_index(index(names.constants.as_slice(), name), i)
 }
 
-/// Returns true if `constr`, the constructor with this tag, is readable.
+/// Returns true if `constr`, the constructor with the tag `tag`, is readable.
 fn is_this_constructor(names: &Names, constr: &ConstrNames, tag: usize) -> bool
     ensures { IsTrue result → slice_get names.now.constructors tag ≡ Some constr.now
         → IsConstructorName names.now tag constr.now }
@@ -168,7 +156,7 @@ fn is_this_constructor(names: &Names, constr: &ConstrNames, tag: usize) -> bool
     false
 }
 
-/// Returns true if the constructor with this tag is readable.
+/// Returns true if the constructor with the tag `tag` is readable.
 fn is_constructor(names: &Names, tag: usize) -> bool
     ensures { IsTrue result
         → (constr : ConstrNames) → slice_get names.now.constructors tag ≡ Some constr
@@ -192,7 +180,7 @@ fn are_constants(names: &Names) -> bool
     true
 }
 
-/// Returns true if all other constructors are readable.
+/// Returns true if all constructors with arguments are readable.
 fn are_constructors(names: &Names) -> bool
     ensures { IsTrue result → AreConstructorNames names.now }
 {
@@ -204,7 +192,7 @@ fn are_constructors(names: &Names) -> bool
     true
 }
 
-/// Returns true if the names of a type with this representation are readable.
+/// Returns true if the names of a type with the representation `shape` are readable.
 #[tactic(auto, using(crate::proofs::guess::EncodedLemmas::sum_names))]
 fn is_encoded_at(shape: &ShapeOf<usize>, names: &Names) -> bool
     ensures { IsTrue result → IsEncoded shape.now names.now }

@@ -11,8 +11,8 @@ use types_spec::types::names::{ConstrNames, Names};
 use types_spec::types::shape::{Constr, ShapeOf};
 use types_table::type_table::TypeTable;
 
-/// A value; its block with the parts to come, if it is a block with parts; and the rest of the
-/// text.
+/// A value, with the rest of the text after the value's beginning. If the value is a block with
+/// parts to come, also the block.
 #[derive(Clone, Copy)]
 pub struct GuessStart<'a, 't> {
     pub value: Val,
@@ -20,7 +20,7 @@ pub struct GuessStart<'a, 't> {
     pub rest: &'t [u8],
 }
 
-/// Returns a value without parts.
+/// Returns the start of a value without parts.
 #[inline(always)]
 fn whole<'a, 't>(value: Val, rest: &'t [u8]) -> Option<GuessStart<'a, 't>> {
     Some(GuessStart {
@@ -51,7 +51,8 @@ fn begin_below<'a, 't>(many: u64, text: &'t [u8]) -> Option<GuessStart<'a, 't>> 
     }
 }
 
-/// Adds a string of these bytes to the heap. Returns `Memory` if it has 2^56 bytes or more.
+/// Adds a string of the bytes `bytes` to the heap. Returns `Memory` if the string has 2^56 bytes or
+/// more.
 #[inline(always)]
 fn add_string(heap: &mut Heap, bytes: &[u8]) -> Result<Val, Memory> {
     if bytes.len() >= 1 << 56 {
@@ -127,7 +128,8 @@ fn begin_block<'a, 't>(
     }))
 }
 
-/// Returns true if the constructor has this name and, depending on `plain`, no field names or some.
+/// Returns true if the constructor has the name `name`. If `plain` is true, the constructor must
+/// have no field names. If `plain` is false, the constructor must have some.
 #[inline(always)]
 fn is_named(constr: &ConstrNames, name: &[u8], plain: bool) -> bool {
     constr.name.as_slice() == name && constr.fields.as_slice().is_empty() == plain
@@ -190,7 +192,7 @@ fn begin_constructor<'a, 't>(
     }
 }
 
-/// Parses the beginning of a part at the type with this number.
+/// Parses the beginning of a part at the type with the given number.
 #[inline(always)]
 pub fn begin<'a, 't>(
     alloc: Global,

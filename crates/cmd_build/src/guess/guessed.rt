@@ -1,4 +1,4 @@
-//! Parses the text of a value as `show` writes it, without checking it.
+//! Parses the text of a value as `show` writes the text, without checking the text.
 
 ghost use Rattle.std.specs.Prelude.{length, IfOk, IfSome, IsTrue};
 ghost use Rattle.base_data.specs.model.Graph.{IsValue};
@@ -16,9 +16,9 @@ use types_table::type_table::TypeTable;
 /// words.
 const BYTES_A_WORD: u64 = 3;
 
-/// The maximal number of nested blocks with parts to come. These blocks take much memory, also when
+/// The greatest number of nested blocks with parts to come. Such blocks take much memory, also when
 /// their text is printed again. Beyond this number, `guess` returns nothing. A block whose last
-/// part has begun does not count, so lists may have any length.
+/// part has begun does not count, which allows lists of any length.
 const MOST_OPEN: usize = 10_000;
 
 /// Returns true if `v` is a valid value of the heap.
@@ -48,7 +48,7 @@ fn write_field(heap: &mut Heap, block: u64, i: u64, v: Val) -> bool {
     }
 }
 
-/// Continues after a part of the innermost block has begun, which may be a block itself. Returns
+/// Continues after a part of the innermost block has begun, which may be a block as well. Returns
 /// the rest of the text. After the last part, the end of the outer block counts as one of the ends
 /// of the inner block.
 #[inline(always)]
@@ -100,7 +100,8 @@ fn read_part<'a, 't>(
     Ok(Some(rest))
 }
 
-/// Parses the parts of a block with everything inside them. Returns true if the text ends there.
+/// Parses the parts of a block with everything inside the parts. Returns true if the text ends
+/// after the parts.
 fn read_parts<'a>(
     alloc: Global,
     heap: &mut Heap,
@@ -123,7 +124,7 @@ fn read_parts<'a>(
     Ok(opens.is_empty() && rest.is_empty())
 }
 
-/// Parses everything inside a value that has begun. Returns true if the text ends there.
+/// Parses everything inside a value that has begun. Returns true if the text ends after the value.
 fn read_rest<'a>(
     alloc: Global,
     heap: &mut Heap,
@@ -139,9 +140,9 @@ fn read_rest<'a>(
     }
 }
 
-/// Returns a guess at the value with this text at the type with number 0. The function reuses the
-/// memory of `heap` for the objects. Returns `None` if it notices that `show` does not write such a
-/// text.
+/// Returns a guess at the value with the given text, at the type with number 0. The function reuses
+/// the memory of `heap` for the objects. Returns `None` if the function notices that `show` does
+/// not write such a text.
 pub fn guess(
     alloc: Global,
     heap: &mut Heap,

@@ -1,10 +1,10 @@
-//! Blocks with parts to come.
+//! A stack entry for a block whose parts are not all parsed.
 
 use crate::guess::scan::{after, between};
 use base_data::model::list::List;
 
 /// A block by its number, with the index of the next part, the types of all parts, and the names of
-/// the fields, if they have names. `ends` is the number of blocks that end with this one.
+/// the fields, if the fields have names. `ends` is the number of blocks that end with the block.
 #[derive(Clone, Copy)]
 pub struct GuessedBlock<'a> {
     pub block: u64,
@@ -44,7 +44,7 @@ impl<'a> GuessedBlock<'a> {
         }
     }
 
-    /// Returns the block as the last part of a block with which `ends` blocks end.
+    /// Returns the block as the last part of an outer block, with which `ends` blocks end.
     #[inline(always)]
     pub fn within(self, ends: usize) -> GuessedBlock<'a> {
         GuessedBlock {

@@ -1,4 +1,4 @@
-//! Compares a text with that of a value.
+//! Compares a text with the text of a value.
 
 ghost use Rattle.std.specs.Prelude.{◌≡◌, IfOk, IsTrue};
 ghost use Rattle.types_spec.specs.types.Table.{table_shapes};
@@ -13,7 +13,7 @@ use std::alloc::Global;
 use text_print::print::is_shown;
 use types_table::type_table::TypeTable;
 
-/// Returns true if this is the text of a value at the type with number 0.
+/// Returns true if `text` is the text of a value at the type with number 0.
 pub fn has_text(
     alloc: Global,
     value: &Rooted<'_>,

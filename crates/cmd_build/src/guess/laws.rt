@@ -1,9 +1,9 @@
-//! The law, as the contract of a lemma function. The function has no effect.
+//! The law about readable names, as the contract of a lemma function without a body.
 
 ghost use Rattle.cmd_build.specs.guess.Encoded.{EncodedAreReadable};
 
-/// If the check of a table finds its names readable, then they are readable at the types of the
-/// table.
+/// Proves that the names of a table are readable at the types of the table, if the check of the
+/// table finds the names readable.
 pub fn encoded_are_readable()
     ensures { EncodedAreReadable }
 {}

@@ -1,4 +1,4 @@
-//! Scanners for the beginning of a text. If `show` does not write such a text, then the results are
+//! Scanners for the beginning of a text. If `show` does not write the text, the results are
 //! meaningless.
 
 use base_data::model::Memory;
@@ -22,7 +22,8 @@ pub fn prefix(text: &[u8], count: usize) -> &[u8] {
     &text[..count]
 }
 
-/// Returns the rest of the text after a separator of two parts, if the text begins with one.
+/// Returns the rest of the text after a separator of two parts, or `None` if the text does not
+/// begin with a separator.
 #[inline(always)]
 pub fn between(text: &[u8]) -> Option<&[u8]> {
     match text {
@@ -32,7 +33,7 @@ pub fn between(text: &[u8]) -> Option<&[u8]> {
     }
 }
 
-/// Returns true if the last byte of a text is that of a block's text.
+/// Returns true if the last byte of a text is a byte that can end the text of a block.
 pub fn ends_block(text: &[u8]) -> bool {
     if text.is_empty() {
         return false;
@@ -41,13 +42,14 @@ pub fn ends_block(text: &[u8]) -> bool {
     end == b')' || end == b'}'
 }
 
-/// Returns the number of decimal digits at the beginning.
+/// Returns the number of decimal digits at the beginning of the text.
 #[inline(always)]
 fn digits_len(text: &[u8]) -> usize {
     text.iter().take_while(|b| b.is_ascii_digit()).count()
 }
 
-/// Returns the number of these digits, or the greatest number of 64 bits if it is too large.
+/// Returns the number that the digits denote, or the greatest number of 64 bits if the number is
+/// too large.
 #[inline(always)]
 fn number_of(digits: &[u8]) -> u64 {
     let mut number: u64 = 0;
@@ -59,13 +61,13 @@ fn number_of(digits: &[u8]) -> u64 {
     number
 }
 
-/// Returns the number as an integer, or 0 if it is too large.
+/// Returns the number as an integer, or 0 if the number is too large.
 #[inline(always)]
 fn positive(number: u64) -> i64 {
     if number > 1 << 62 { 0 } else { number as i64 }
 }
 
-/// Returns the negated number as an integer, or 0 if it is too large.
+/// Returns the negated number as an integer, or 0 if the number is too large.
 #[inline(always)]
 fn negative(number: u64) -> i64 {
     if number > 1 << 62 {
@@ -75,7 +77,7 @@ fn negative(number: u64) -> i64 {
     }
 }
 
-/// Parses an integer. Returns it with the rest of the text.
+/// Parses an integer. Returns the integer with the rest of the text.
 #[inline(always)]
 pub fn integer(text: &[u8]) -> (i64, &[u8]) {
     if let [b'-', rest @ ..] = text {
@@ -97,7 +99,8 @@ fn hexadecimal(digit: u8) -> u64 {
     }
 }
 
-/// Parses a double whose `$` is right before `text`. Returns its bits with the rest of the text.
+/// Parses a double whose `$` is right before `text`. Returns the bits of the double with the rest
+/// of the text.
 #[inline(always)]
 pub fn double(text: &[u8]) -> (u64, &[u8]) {
     let mut bits: u64 = 0;
@@ -119,7 +122,7 @@ pub fn plain_len(text: &[u8]) -> usize {
     text.iter().take_while(|b| is_plain(**b)).count()
 }
 
-/// Parses the byte with these three decimal digits.
+/// Parses the byte that the three decimal digits at the beginning of the text denote.
 fn decimal(text: &[u8]) -> Option<(u8, &[u8])> {
     let [a, b, c, rest @ ..] = text else {
         return None;
@@ -131,7 +134,7 @@ fn decimal(text: &[u8]) -> Option<(u8, &[u8])> {
     Some((value as u8, rest))
 }
 
-/// Returns the byte that a backslash and this byte represent.
+/// Returns the byte that a backslash and the byte `b` represent.
 fn named(b: u8) -> u8 {
     match b {
         b'n' => b'\n',
@@ -142,7 +145,8 @@ fn named(b: u8) -> u8 {
     }
 }
 
-/// Parses an escape, if the text begins with one.
+/// Parses the escape at the beginning of the text. Returns `None` if the text begins with no
+/// escape.
 fn escape(text: &[u8]) -> Option<(u8, &[u8])> {
     let [first, second, rest @ ..] = text else {
         return None;
@@ -182,7 +186,7 @@ fn is_in_name(b: u8) -> bool {
     }
 }
 
-/// Returns the number of bytes of a constructor's name at the beginning.
+/// Returns the number of bytes of a constructor's name at the beginning of the text.
 #[inline(always)]
 pub fn name_len(text: &[u8]) -> usize {
     text.iter().take_while(|b| is_in_name(**b)).count()

@@ -1,4 +1,4 @@
--- Proves `Account` for a run of `check --cert`, from the contents of its file.
+-- The contents of FILE determine `Account` for a run of `check --cert`.
 use Rattle.std.proofs.Common.{◌≡◌, ◌⊎◌, ◌<◌, ℕ, zero, suc, Bool, List, Ok, Err, inl, inr, refl, subst, arith}
 use Rattle.cli_spec.specs.declared.status.Status.{Status}
 use Rattle.cli_spec.specs.declared.read_options.ReadOptions.{ReadOptions}
@@ -67,7 +67,7 @@ module _ (arguments : List (List ℕ)) (file type : List ℕ) (lines : Bool) (re
       inl (Ok request, asks, (asked, refl, (Err exit, reads, refl)))
   gives_exit exit (inr memory) = inr memory
 
-  -- There is no type.
+  -- Case: FILE and TYPE give no type, and the exit reason is reported.
   pub no_type_account :
       (exit : Exit) → GivesType file (asked_type type lines) found (Err exit) → (input out : ByteState)
       (err : Change ByteState) (status : Status) → Reports exit err status
@@ -76,7 +76,7 @@ module _ (arguments : List (List ℕ)) (file type : List ℕ) (lines : Bool) (re
       exit_account on_certified_after arguments all_found input out files fetches err status exit
       (gives_exit exit gives) r
 
-  -- The values are certified at the type.
+  -- Case: FILE and TYPE give a type, and the values are certified.
   pub values_account :
       (r : Prepared) → GivesType file (asked_type type lines) found (Ok r)
       → (input out err : Change ByteState) (status : Status)
@@ -86,7 +86,7 @@ module _ (arguments : List (List ℕ)) (file type : List ℕ) (lines : Bool) (re
       has arguments all_found files fetches
       (Ok request, asks, (refl, (asked, refl, (Ok (type_over r), gives.0, refl))))
 
--- Memory ran out before the input.
+-- Case: memory ran out before the input was read.
 pub memory_account :
     (a : Passed × Certification TypeOver) (input out : ByteState) (err : Change ByteState)
     (status : Status) → Reports out_of_memory err status
@@ -95,7 +95,7 @@ memory_account a input out err status r = λ arguments found files fetches prepa
     exit_account on_certified_after arguments found input out files fetches err status out_of_memory
     (inr refl) r
 
--- Equal parameters have the same `Account`.
+-- If the skipped bytes and the tasks are equal, then `Account` holds for both tasks.
 pub account_same :
     (over other : Passed) (a b : Certification TypeOver) (input out err : Change ByteState)
     (status : Status) → over ≡ other → a ≡ b

@@ -1,4 +1,4 @@
--- The entry of a value by the requested table is its entry at the type.
+-- The entry of a value by the requested table is the entry of the value at the type.
 use Rattle.std.proofs.Common.{ℕ, ◌≡◌, Bool, List, ap₂}
 use Rattle.base_data.specs.declared.model.value.Val.{Val}
 use Rattle.base_data.specs.declared.model.value.Obj.{Obj}
@@ -20,7 +20,8 @@ use Rattle.run_types.proofs.GivenLemmas.{ready_each, ready_some_not}
 use Rattle.run_types.proofs.VerdictLemmas.{is_first, made}
 use Rattle.cmd_certify.specs.command.Certified.{CertifiesFault, IsSectionOf, is_yes, section_output}
 
--- The output for a value is the text of its entry, and whether the entry is a `yes`.
+-- If the text is the entry's text, and `ok` states whether the entry is a `yes`, then text and `ok`
+-- are the output.
 pub output_of :
     (number : ℕ) (section : Section) (text : List ℕ) (ok : Bool)
     → text ≡ section_text number section → ok ≡ is_yes section

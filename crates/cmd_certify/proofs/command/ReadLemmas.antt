@@ -1,4 +1,4 @@
--- The output for the values so far, while a chunk is taken.
+-- The output for the values so far, while a chunk is consumed.
 use Rattle.std.proofs.Common.{◌≡◌, ℕ, ◌+◌, Bool, List, [], ◌∷◌, ◌++◌, Result, Ok, Err, refl, sym, ◌∙◌, subst}
 use Rattle.std.specs.Prelude.{◌&&◌, IsErrAnd}
 use Rattle.marshal_spec.specs.format.Stream.{clean, cut}
@@ -48,7 +48,7 @@ output_read t number value tree output is outputs =
     subst (λ v. OutputsSection t number (objects_of tree 0) v output) is.root
     (subst (λ h. OutputsSection t number h value.root output) is.heap outputs)
 
--- The state is preserved for equal types, least numbers and limits.
+-- If the types, the least numbers and the limits are equal, then the state is valid for both tasks.
 pub has_same :
     (r s : Prepared) (least_faults others : List ℕ) (limit most : ℕ) (reader : Reader) (count : ℕ)
     (ok : Bool) (taken : List ℕ) (output : List Output) → r ≡ s → least_faults ≡ others → limit ≡ most
@@ -61,7 +61,7 @@ has_same r s least_faults others limit most reader count ok taken output e f g h
 
 module _ (r : Prepared) (least_faults : List ℕ) (limit : ℕ) {reader : Reader} {count : ℕ} {ok : Bool}
     {taken : List ℕ} {output : List Output} where
-  -- The input ends.
+  -- If the input ends after a value, then the run ends without an exit reason.
   pub ends_all :
       (h : HasRead r least_faults limit reader count ok taken output)
       → EndsInput {U = Unit {0}} limit h.prefix (Ok tt) → (o : ByteState)
@@ -77,7 +77,8 @@ module _ (r : Prepared) (least_faults : List ℕ) (limit : ℕ) {reader : Reader
 
   module _ (v : IsValueRead r least_faults limit reader count ok taken output) (value : Value)
       (f : Finishes limit v.whole value) where
-    -- This is the output for the value.
+    -- If `next` is the output for the value in memory, then `next` is the output for the value of
+    -- the input.
     value_output :
         (next : Output) → OutputsSection (type_over r) count value.heap value.root next
         → OutputsOf declared_certificates (certified r limit) v.items (value_item f.tree) next
@@ -88,7 +89,7 @@ module _ (r : Prepared) (least_faults : List ℕ) (limit : ℕ) {reader : Reader
           (output_read (type_over r) count value f.tree next f.is_value outputs);
     }
 
-    -- The output was written, and the reader waits for the next value.
+    -- If the output for the value was written, then the reader waits for the next value.
     pub value_written :
         (out : Change ByteState) (fine : Bool)
         → WritesSection (type_over r) count value.heap value.root out (Ok fine)
@@ -111,7 +112,7 @@ module _ (r : Prepared) (least_faults : List ℕ) (limit : ℕ) {reader : Reader
         let next : Output = record { text = text; ok = fine } in
         (next, value_known (has_values r limit) v f next (value_output next outputs), part)
 
-    -- The output was not written.
+    -- If the output for the value was not written, then the run ends with the error.
     pub value_aborts :
         (out : Change ByteState) (error : Error) (new : Reader) (count' : ℕ) (ok' : Bool)
         (result : Result (Unit {0}) Error) → IsErrAnd result (λ h. h ≡ error)

@@ -1,4 +1,5 @@
--- The end of the input and its refusals are unique, and the tables are exact about the end.
+-- The end of the input and the refusal of bytes are unique, and the tables are exact about the end
+-- of the input.
 use Rattle.std.proofs.Common.{◌≡◌, ℕ, List, [], ◌++◌, length, inl, inr, refl, sym, ap, ◌∙◌, subst}
 use Rattle.std.specs.Prelude.{◌↔◌}
 use Rattle.base_data.specs.model.Bytes.{AreBytes}
@@ -21,7 +22,7 @@ use Rattle.run_spec.specs.exit_statuses.Numbered.{HoldsOfAll}
 use Rattle.run_spec.proofs.exit_statuses.OutputLemmas.{exit_status}
 use Rattle.cmd_certify.specs.spec.Ends.{ComesRefused, EndsBy, EndsHere, EndWith}
 
--- ---- refusals
+-- ---- refusals of bytes
 
 module _ (limit number : ℕ) (bytes : List ℕ) where
   pub refused_stays :
@@ -71,7 +72,7 @@ module _ (limit : ℕ) (EndsClean : ℕ → Reply → Type 0) where
 module _ {A : Type 0} (commands : Commands A) (a : A) (limit : ℕ) (EndsClean : ℕ → Reply → Type 0)
     (Has : ℕ → Tree → Type 0) (Finish : List Tree → Status → Type 0)
     (AreOutput : List Tree → List Output → Type 0) where
-  -- The hypotheses on the outputs for values, and on the end of the values.
+  -- The hypotheses about the outputs for values, and about the end of the values.
   pub record AreKnown : Type 0 where
     pub all_have : (trees : List Tree) (output : List Output) → AreOutput trees output → HoldsOfAll Has 0 trees
     pub print_some :
@@ -100,7 +101,7 @@ module _ {A : Type 0} (commands : Commands A) (a : A) (limit : ℕ) (EndsClean :
         → commands.Ends a items bytes last ↔ EndsHere limit EndsClean items bytes last
 
   module _ (known : AreKnown) where
-    -- Each end is a row of the table.
+    -- If an input ends with a final reply, then the table contains the status of the run.
     end_row :
         (bytes : List ℕ) (trees : List Tree) (output : List Output) (rest : List ℕ) (last : Reply)
         → EncodeAll limit bytes trees rest → AreOutput trees output → (end : End)
@@ -134,7 +135,7 @@ module _ {A : Type 0} (commands : Commands A) (a : A) (limit : ℕ) (EndsClean :
         end_row bytes values.0 all.output h.rest all.last values.2 values.3 ends.0 ends.1
         (subst (λ n. EndsBy limit EndsClean n ends.0 all.last) number ends.2)
 
-    -- Each row of the table is an end.
+    -- If the table contains a status, then an input ends with a final reply of this status.
     ended :
         (bytes : List ℕ) (trees : List Tree) (rest : List ℕ) (all : Replies) (end : End)
         → EncodeAll limit bytes trees rest → AreOutput trees all.output → AreBytes rest
@@ -153,7 +154,7 @@ module _ {A : Type 0} (commands : Commands A) (a : A) (limit : ℕ) (EndsClean :
       );
     }
 
-    -- There is an end with this status.
+    -- The bytes have replies whose status is `status`.
     abbrev HasEnd : List ℕ → Status → Type 0
     HasEnd bytes status =
         (all : Replies) × ((ending_of all).status ≡ status)

@@ -1,4 +1,4 @@
--- The command does nothing for any other request.
+-- The command does nothing for a request of another command.
 use Rattle.std.proofs.Common.{◌≡◌, ◌∙◌, Some, None, sym}
 use Rattle.cli_spec.specs.Outcome.{Request, Language}
 use Rattle.run_spec.specs.command_sum.CommandSum.{IsIdleAt}

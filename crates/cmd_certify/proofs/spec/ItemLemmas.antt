@@ -1,5 +1,5 @@
--- The output for a value, the exit reason and the end of the input are unique, and they remain if
--- more bytes follow.
+-- The output for a value, the exit reason and the end of the input are unique. If more bytes
+-- follow, outputs and exit reasons remain.
 use Rattle.std.proofs.Common.{◌≡◌, ℕ, List, length, sym, ◌∙◌, subst}
 use Rattle.base_data.specs.model.Bytes.{AreBytes}
 use Rattle.base_data.specs.declared.model.refusal.ReadRefusal.{ReadRefusal}
@@ -30,7 +30,7 @@ module _ {T : Type 0} (SectionOf : OutputsSections T) (a : Certification T) wher
     module _ (items : List Item) (rest : List ℕ) (are_bytes : AreBytes rest) (end : End)
         (tail : IsTail a.limit rest end)
         (fine : (refusal : ReadRefusal) → end ≡ refused refusal → ⊥) where
-      -- If bytes are no value and are not refused, then the run continues.
+      -- If bytes begin with no value and are not refused, then the run continues.
       pub goes_on : GoesOn (certifying language SectionOf) a items rest
       goes_on = record {
         no_exit = λ exit r.

@@ -1,4 +1,5 @@
--- If the language is lawful, and a value has one certificate entry, then the command is lawful.
+-- If the language is lawful, and each value has at most one certificate entry, then the command is
+-- lawful.
 use Rattle.std.proofs.Common.{◌≡◌, ◌⊎◌, ℕ, List, Some, Result, Ok, Err, inl, inr, refl, sym, ap, ◌∙◌, subst}
 use Rattle.std.specs.Prelude.{Option}
 use Rattle.cli_spec.specs.Outcome.{Request, Language, ReadsTypeOf}
@@ -14,7 +15,7 @@ use Rattle.run_spec.proofs.value_commands.GivenLemmas.{type_given}
 use Rattle.cmd_certify.specs.spec.Certification.{Certification, OutputsSections, Asked, certified_by, typed_of, CertifiesBy, Wants, Finds, certifying, AreCertifiedOnce}
 use Rattle.cmd_certify.proofs.spec.ItemLemmas.{lawful_at}
 
--- The arguments request one certificate.
+-- The arguments request at most one certification.
 asked_same : (one other : Option Asked) (x y : Asked) → one ≡ Some x → one ≡ Some y → x ≡ y
 asked_same one other x y h k = let both : Some x ≡ Some y = sym h ∙ k in cc both
 
@@ -24,7 +25,7 @@ module _ {D T E : Type 0} (language : Language D T E) (SectionOf : OutputsSectio
       → certified_by request ≡ Some other → one ≡ other
   asked_once request = asked_same (certified_by request) (certified_by request)
 
-  -- ---- the task is unique, by the requested file
+  -- ---- the requested file determines the task
 
   abbrev done : Asked → T → Result (Certification T) Exit → Type 0
   done asked type found = found ≡ Ok (record { type = type; limit = asked.limit })

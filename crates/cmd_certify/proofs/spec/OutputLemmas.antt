@@ -1,4 +1,5 @@
--- The outputs for values and their certificate entries determine each other, as the tables state.
+-- The outputs for values and the certificate entries of the values determine each other, as the
+-- tables state.
 use Rattle.std.proofs.Common.{◌≡◌, ℕ, Bool, true, false, List, length, refl, sym, ◌∙◌, subst}
 use Rattle.std.specs.Prelude.{◌↔◌, if◌then◌else◌}
 use Rattle.marshal_spec.specs.format.Stream.{EncodeAll}
@@ -17,14 +18,14 @@ use Rattle.cmd_certify.specs.spec.Certification.{Certification, OutputsSections,
 use Rattle.cmd_certify.specs.spec.ExitStatuses.{IsCertified, HasSection, Finish}
 
 module _ {T : Type 0} (SectionOf : OutputsSections T) (a : Certification T) where
-  -- The outputs for the values; the first value has this number.
+  -- The outputs for the values of the trees, whose numbers begin at `number`.
   abbrev pub AreOutput : ℕ → List Tree → List Output → Type 0
   AreOutput number trees output = numbered.AreOutput (SectionOf a.type) number trees output
 
   abbrev Certified : Bool → ℕ → Tree → Type 0
   Certified ok number tree = IsCertified SectionOf a ok number tree
 
-  -- If there is an output for a value, then the value has an entry.
+  -- If there is an output for a value, then the value has a certificate entry.
   same :
       (ok : Bool) (number : ℕ) (tree : Tree) → HasOutput (SectionOf a.type) ok number tree
       → Certified ok number tree
@@ -37,7 +38,8 @@ module _ {T : Type 0} (SectionOf : OutputsSections T) (a : Certification T) wher
       → HoldsOfAll (HasSection SectionOf a) k trees
   all_have k trees output h = numbered.all_have (SectionOf a.type) Certified same k trees output h
 
-  -- If the input ends after such values, then its status is one of the table.
+  -- If the input ends after values with these outputs, then the table contains the status of the
+  -- run.
   pub finish_of :
       (trees : List Tree) (output : List Output) (last : Reply) → AreOutput 0 trees output
       → last ≡ outputs nothing_output → Finish SectionOf a trees (ending_of (replies output last)).status
@@ -63,7 +65,7 @@ module _ {T : Type 0} (SectionOf : OutputsSections T) (a : Certification T) wher
       → (output : List Output) × AreOutput k trees output
   print_some k trees h = numbered.print_some (SectionOf a.type) Certified output_of k trees h
 
-  -- The replies for values and their end, with this status.
+  -- There are outputs for the values and a final reply with this status.
   abbrev pub IsReplied : List Tree → Status → Type 0
   IsReplied trees status =
       (all : Replies) × ((ending_of all).status ≡ status) × AreOutput 0 trees all.output
@@ -111,7 +113,7 @@ module _ {T : Type 0} (SectionOf : OutputsSections T) (a : Certification T) wher
       λ section. record { tree = tree; is = refl; section = section },
     )
 
-    -- The first values, as items.
+    -- If the bytes begin with the values of these trees, then the values are the first items.
     pub outputs_first :
         (bytes : List ℕ) (trees : List Tree) (output : List Output) (rest : List ℕ)
         → EncodeAll a.limit bytes trees rest → AreOutput 0 trees output
@@ -120,7 +122,7 @@ module _ {T : Type 0} (SectionOf : OutputsSections T) (a : Certification T) wher
         values_first language a.limit (certifying language SectionOf) a first (SectionOf a.type)
         reports bytes trees output rest encoded print
 
-    -- The first items, as values.
+    -- If the bytes begin with these items, then the items are values of trees.
     pub print_first :
         (bytes : List ℕ) (items : List Item) (output : List Output) (rest : List ℕ)
         → OutputsFirst (certifying language SectionOf) a bytes items output rest

@@ -40,7 +40,7 @@ module _ {D T E : Type 0} (language : Language D T E) (SectionOf : OutputsSectio
 
   -- ---- each row of the table is an exit reason
 
-  -- There is an exit reason with this status.
+  -- An exit reason of the bytes has this status.
   abbrev HasExit : Certification T → List ℕ → Status → Type 0
   HasExit a bytes status = (exit : Exit) × (status_of exit ≡ status) × Stopping a bytes exit
 
@@ -127,7 +127,7 @@ module _ {D T E : Type 0} (language : Language D T E) (SectionOf : OutputsSectio
         let same : s ≡ exit = cc e in subst BarBy same (type_bar asked is s reads)
     bar_of exit (asked, is, (Ok type, reads, e)) = absurd (cc e)
 
-    -- There is an exit reason with this status before the input.
+    -- An exit reason before the input has this status.
     abbrev HasExitBefore : Status → Type 0
     HasExitBefore status =
         (exit : Exit) × (status_of exit ≡ status)

@@ -1,4 +1,4 @@
--- The output for the values so far, while a chunk is taken.
+-- The output for the values so far, while a chunk is consumed.
 use Rattle.std.proofs.Common.{◌≡◌, ◌⊎◌, ℕ, zero, suc, ◌+◌, ◌^◌, ◌<◌, ◌≤◌, Bool, true, false, List, [], ◌∷◌, ◌++◌, length, take, drop, Result, Ok, Err, inl, inr, refl, sym, ap, ◌∙◌, subst, append_assoc, append-nil, length-append, take_all, arith}
 use Rattle.std.specs.Prelude.{◌&&◌, IsErrAnd}
 use Rattle.std.proofs.lemmas.List.{length-take-le, take-append-drop}
@@ -58,14 +58,15 @@ module _ {D T E A : Type 0} (language : Language D T E) (commands : Commands A) 
         → commands.Ends a items bytes
         (outcome.exits (exits.Value (length items) (truncated_text n)))
 
--- The error is that of the result.
+-- If a property holds for an error, and the result is the error, then the property holds for the
+-- result.
 pub error_is :
     {U : Type 0} (P : Result U Error → Type 0) (error : Error) (result : Result U Error)
     → IsErrAnd result (λ h. h ≡ error) → P (Err error) → P result
 error_is P error (Ok unit) is p = absurd is
 error_is P error (Err h) is p = subst (λ h. P (Err h)) (sym is) p
 
--- The state before any byte is taken.
+-- Before any byte is consumed, the state is valid.
 pub begins :
     {A : Type 0} (commands : Commands A) (a : A) (limit : ℕ) (Ready : Type 0) (reader : Reader)
     → Ready → Leads limit [] reader → HasRead commands a limit Ready reader 0 true [] []
@@ -80,7 +81,7 @@ begins commands a limit Ready reader ready leads = record {
   is_all_ok = refl;
 }
 
--- The reader is at the end of a value.
+-- If the input ends without an error, then the reader has no bytes of a next value.
 pub none_left :
     (limit : ℕ) (prefix : List ℕ) (reader : Reader) → IsPrefix limit prefix
     → Leads limit prefix reader → EndsInput {U = Unit {0}} limit prefix (Ok tt) → prefix ≡ []
@@ -90,7 +91,7 @@ none_left limit prefix reader is_prefix leads (inr (tree, encoded)) =
 
 module _ {D T E A : Type 0} {language : Language D T E} {commands : Commands A} {a : A}
     {limit : ℕ} (known : HasValues language commands a limit) where
-  -- There are no more values than bytes.
+  -- The bytes contain at most as many values as bytes.
   split_count :
       (before : List Item) (bytes : List ℕ) (items : List Item) (rest : List ℕ)
       → Split commands a before bytes items rest
@@ -118,7 +119,7 @@ module _ {D T E A : Type 0} {language : Language D T E} {commands : Commands A} 
         let some = v.some in omega (arith, fewer, short, counted, some)
 
     module _ (h : HasRead commands a limit Ready reader count ok taken output) where
-      -- The bytes taken so far give no exit reason.
+      -- The bytes consumed so far contain no exit reason.
       abbrev pub holds : HaveNoExit commands a taken output
       holds =
           let e = prefix_end limit h.prefix h.is_prefix in record {
@@ -128,7 +129,7 @@ module _ {D T E A : Type 0} {language : Language D T E} {commands : Commands A} 
             goes_on = known.goes_on h.items h.prefix h.leads.bytes e.0 e.1 e.2;
           }
 
-      -- A value is truncated at the end of the input.
+      -- Case: a value is truncated at the end of the input.
       pub ends_split :
           (truncated : Truncated) → EndsInput {U = Unit {0}} limit h.prefix (Err truncated)
           → (o : ByteState) (exit : Exit)
@@ -147,7 +148,7 @@ module _ {D T E A : Type 0} {language : Language D T E} {commands : Commands A} 
       -- ---- buffered bytes
 
       module _ {rest : List ℕ} {new : Reader} {fed : Fed} (f : Feeds limit h.prefix rest new fed) where
-        -- The buffered bytes complete the value.
+        -- Case: the buffered bytes complete the value.
         abbrev pub whole_read :
             fed.done ≡ true
             → IsValueRead commands a limit Ready new count ok (taken ++ take fed.taken rest) output
@@ -172,7 +173,7 @@ module _ {D T E A : Type 0} {language : Language D T E} {commands : Commands A} 
             let some = length-take-le fed.taken rest in
             let fits = f.within in omega (arith, size, some, short, fits)
 
-        -- If the value is complete, then some bytes were taken.
+        -- If the value is complete, then the reader has consumed at least one byte.
         pub some_taken : fed.done ≡ true → 0 < fed.taken
         some_taken done = some fed.taken refl where
           some : (n : ℕ) → fed.taken ≡ n → 0 < n
@@ -184,7 +185,7 @@ module _ {D T E A : Type 0} {language : Language D T E} {commands : Commands A} 
               (subst (λ b. EncodedUnder limit b whole.0) none whole.1))
           some (suc n) e = omega arith
 
-        -- All buffered bytes are taken, and the value is not complete.
+        -- Case: all buffered bytes are consumed, and the value is not complete.
         pub prefix_read :
             fed.done ≡ false
             → HasRead commands a limit Ready new count ok (taken ++ take fed.taken rest)
@@ -225,7 +226,7 @@ module _ {D T E A : Type 0} {language : Language D T E} {commands : Commands A} 
               }))
             ]
 
-        -- The reader refuses the bytes.
+        -- Case: the reader refuses the buffered bytes.
         pub refused_aborts :
             (refusal : ReadRefusal) (exit : Exit) → RefusedIn limit (h.prefix ++ rest) refusal
             → IsExitOf count refusal exit → (o : ByteState)
@@ -233,7 +234,7 @@ module _ {D T E A : Type 0} {language : Language D T E} {commands : Commands A} 
         refused_aborts refusal exit reported is o =
             (holds, exits_in refusal exit reported is, writes_nothing o)
 
-        -- The error is at the value that ends there.
+        -- Case: the value that ends in the buffered bytes ends the run.
         pub next_aborts :
             (ExitsSo : Exit → Type 0) → ((exit : Exit) → ExitsSo exit → ExitsIn exit) → (n : ℕ)
             (out : Change ByteState) (reader' : Reader) (count' : ℕ) (ok' : Bool) (error : Error)
@@ -274,11 +275,12 @@ module _ {D T E A : Type 0} {language : Language D T E} {commands : Commands A} 
           } in first_next commands a taken v.items output v.whole (value_item f.tree) [] next v.first
           (known.first_value v.items v.whole (value_item f.tree) [] first) outputs
 
-      -- The output for the value is the output for the bytes.
+      -- If a value was read completely, then the outputs so far and the output for the value are
+      -- outputs of the bytes.
       pub value_known : AreOutput commands a taken (output ++ next ∷ [])
       value_known = (v.items ++ value_item f.tree ∷ [], [], value_output)
 
-      -- The reader waits for the next value.
+      -- If the output for the value was written, then the reader waits for the next value.
       pub value_done :
           (new : Reader) → Leads limit [] new → (fine_all : Bool) → fine_all ≡ (ok && next.ok)
           → HasRead commands a limit Ready new (count + 1) fine_all taken (output ++ next ∷ [])

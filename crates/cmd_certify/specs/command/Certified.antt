@@ -21,47 +21,50 @@ use Rattle.opt_skip_only.specs.skip_spec.Asked.{passed_by}
 use Rattle.opt_skip_only.specs.skip_spec.Skipping.{Passed, skipping}
 
 module _ (t : TypeOver) (graph : List Obj) (v : Val) where
-  -- The value has the type and each of its closed instances. By a table of the types that the type
-  -- reaches, these are the pairs that paths reach. Each has the least number of its class, and they
-  -- are in the order of an entry.
+  -- The value has the type and each closed instance of the type. By a table of the types that the
+  -- type reaches, `pairs` are the pairs that paths reach. Each pair has the least number of its
+  -- class of equal types. The pairs are in the order of an entry.
   pub record CertifiesType (pairs : List (ℕ × ℕ)) : Type 0 where
     pub has : HasType (declared_shapes t.decls) graph v t.type
     pub each : HasEachInstance t.decls graph v t.type
     pub are : AreReachedAt t.decls t.type graph v pairs
 
-  -- The value lacks the type and some closed instance of it, and this is its first fault.
+  -- The value lacks the type and some closed instance of the type, and `fault` is the value's first
+  -- fault.
   pub record CertifiesFault (fault : Fault) : Type 0 where
     pub least : IsLeastFault (declared_shapes t.decls) graph v t.type fault
     pub some_not : ¬ HasEachInstance t.decls graph v t.type
 
-  -- The certificate entry of the value.
+  -- The entry is the certificate entry of the value at the type.
   abbrev pub IsSectionOf : Section → Type 0
   IsSectionOf (sections.Pairs pairs) = CertifiesType pairs
   IsSectionOf (sections.Mismatch path) = CertifiesFault (faults.Mismatch path)
   IsSectionOf (sections.Conflict first second) = CertifiesFault (faults.Conflict first second)
 
--- True if the entry is that of a value that has the type.
+-- Returns true if the entry states that the value has the type.
 abbrev pub is_yes : Section → Bool
 is_yes (sections.Pairs pairs) = true
 is_yes (sections.Mismatch path) = false
 is_yes (sections.Conflict first second) = false
 
--- The text of an entry with its number, and whether its value is ok.
+-- The output for a value with this number and entry: the text of the entry, and whether the value
+-- is ok.
 abbrev pub section_output : ℕ → Section → Output
 section_output number section =
     record { text = section_text number section; ok = is_yes section }
 
--- The output for the value is its entry, with its number.
+-- The output for the value is the text of the value's entry, with the value's number.
 abbrev pub OutputsSection : TypeOver → ℕ → List Obj → Val → Output → Type 0
 OutputsSection t number graph v output =
     (section : Section) × IsSectionOf t graph v section × (output ≡ section_output number section)
 
--- The output for the value of a tree.
+-- The output for the value that the tree encodes, with the value's number.
 abbrev pub declared_certificates : OutputsSections TypeOver
 declared_certificates t number tree output =
     OutputsSection t number (objects_of tree 0) (root tree 0) output
 
--- The command at declared types, and the same command after skipped bytes.
+-- `on_certified`: the command at declared types. `on_certified_after`: the command at declared
+-- types after skipped bytes.
 abbrev pub on_certified : Commands (Certification TypeOver)
 on_certified = certifying declared_types declared_certificates
 

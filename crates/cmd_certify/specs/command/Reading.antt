@@ -1,4 +1,4 @@
--- The values read so far, and the output for them, while the bytes of the input arrive.
+-- The values read so far, and the output for the values, while the bytes of the input arrive.
 use Rattle.std.specs.Prelude.{ℕ, ◌≡◌, Bool, false, List, [], Result, Ok, Err}
 use Rattle.base_data.specs.declared.model.value.Obj.{Obj}
 use Rattle.base_data.specs.declared.model.value.Val.{Val}
@@ -20,16 +20,17 @@ use Rattle.cli_spec.specs.declared.exit.Exit.TheVariants.{Memory as out_of_memor
 use Rattle.opt_skip_only.specs.skip_spec.Skipping.{Passed}
 use Rattle.cmd_certify.specs.command.Certified.{OutputsSection, on_certified}
 
--- The parameters of the command.
+-- The task of certifying values at the type of `r` under this limit.
 abbrev pub certified : Prepared → ℕ → Certification TypeOver
 certified r limit = record { type = type_over r; limit = limit }
 
--- The parameters, with the number of skipped bytes.
+-- The task of certifying values, with the number of skipped bytes.
 abbrev pub certified_after : Prepared → ReadOptions → Passed × Certification TypeOver
 certified_after r reading =
     (record { bytes = reading.skip; copied = false }, certified r reading.limit)
 
--- The entry is written. Or memory ran out and nothing is written. Or writing the output fails.
+-- How the entry of a value is written. Case `Ok`: the entry is written. Case `Exit`: memory ran
+-- out, and nothing is written. The last case is that writing the output fails.
 abbrev pub WritesSection : TypeOver → ℕ → List Obj → Val → Change ByteState → Result Bool Error
     → Type 0
 WritesSection t number graph v out (Ok ok) =
@@ -41,21 +42,23 @@ WritesSection t number graph v out (Err aborts.WriteFault) =
     (text : List ℕ) × (ok : Bool)
     × OutputsSection t number graph v (record { text = text; ok = ok }) × WritesPart out text
 
--- The state that must be ready for the values.
+-- The type is ready for checks, and the least numbers of the type's table are right.
 abbrev pub Ready : Prepared → List ℕ → Type 0
 Ready r least_faults = IsReady r × AreLeastFaults (table_of r.table) least_faults
 
 module _ (r : Prepared) (least_faults : List ℕ) (limit : ℕ) where
-  -- The values read so far and their output, with a prefix of the next value.
+  -- Whole values were read and their output was written, and the reader has a prefix of the next
+  -- value.
   abbrev pub HasRead : Reader → ℕ → Bool → List ℕ → List Output → Type 0
   HasRead = work.HasRead on_certified (certified r limit) limit (Ready r least_faults)
 
-  -- The same, with all bytes of the next value.
+  -- Whole values were read and their output was written, and the reader has all bytes of the next
+  -- value.
   abbrev pub IsValueRead : Reader → ℕ → Bool → List ℕ → List Output → Type 0
   IsValueRead = work.IsValueRead on_certified (certified r limit) limit (Ready r least_faults)
 
-  -- The output for the current value is written. Or memory ran out and nothing is written. Or
-  -- writing the output fails.
+  -- How the output for the current value is written. Case `Ok`: the output is written. Case `Exit`:
+  -- memory ran out, and nothing is written. The last case is that writing the output fails.
   abbrev pub WritesNext : {U : Type 0} → Reader → ℕ → Bool → List ℕ → List Output
       → Change ByteState → Result U Error → Type 0
   WritesNext reader count ok taken output =

@@ -1,5 +1,5 @@
--- The command `check --cert` in the general form. An item is a value, and its certificate entry is
--- the output for it, by its number.
+-- The command `check --cert` in the general form of `Commands`. An item is a value, and the output
+-- for the value is the value's certificate entry with the value's number.
 use Rattle.std.specs.Prelude.{ℕ, ◌≡◌, List, length, Option, None, Some, Result, Ok}
 use Rattle.marshal_spec.specs.format.Stream.{End}
 use Rattle.marshal_spec.specs.format.Tree.{Tree}
@@ -14,30 +14,30 @@ use Rattle.run_spec.specs.runs.LawfulLanguage.{IsGiven}
 use Rattle.run_spec.specs.value_commands.Tasks.{IsFirstValue}
 use Rattle.cmd_certify.specs.spec.Ends as ends
 
--- The task: certify the values at the type.
+-- The task of the command: to certify the values at the type, under the limit of words.
 pub record Certification (T : Type 0) : Type 0 where
   pub type : T
   pub limit : ℕ
 
--- The certificate entry for a value at a type, by the value's number. `Output.ok` says whether the
--- entry proves that the value has the type.
+-- The certificate entry for a value at a type, by the value's number. `Output.ok` states whether
+-- the entry proves that the value has the type.
 abbrev pub OutputsSections : Type 0 → Type 1
 OutputsSections T = T → ℕ → Tree → Output → Type 0
 
 -- ---- the values
 
 module _ {T : Type 0} (SectionOf : OutputsSections T) (a : Certification T) where
-  -- The output for the next value.
+  -- The output for the value after `items`.
   pub record OutputsOf (items : List Item) (item : Item) (output : Output) : Type 0 where
     pub tree : Tree
     pub is : item ≡ value_item tree
     pub section : SectionOf a.type (length items) tree output
 
-  -- After these values the following bytes are refused.
+  -- After the values `items`, the bytes that follow are refused.
   abbrev pub ExitsHere : List Item → List ℕ → Exit → Type 0
   ExitsHere items bytes exit = ends.ComesRefused a.limit (length items) bytes exit
 
-  -- The final reply if the bytes end after this many values, or inside one more value.
+  -- The final reply if the bytes end after `number` values, without a part of a next value.
   abbrev pub EndsClean : ℕ → Reply → Type 0
   EndsClean number last = last ≡ outputs nothing_output
 
@@ -63,7 +63,7 @@ certified_by request = None
 abbrev pub typed_of : Asked → List ℕ × AskedType
 typed_of asked = (asked.file, asked.type)
 
--- FILE and TYPE are read.
+-- FILE and TYPE are read. The result contains the task or the exit reason.
 abbrev pub CertifiesBy : {D T E : Type 0} → Language D T E → Fetches → Asked
     → Result (Certification T) Exit → Type 0
 CertifiesBy language files asked =
@@ -73,7 +73,7 @@ CertifiesBy language files asked =
 -- ---- the command
 
 module _ {D T E : Type 0} (language : Language D T E) (SectionOf : OutputsSections T) where
-  -- FILE is requested, in the first turn.
+  -- The file `name` is requested in this turn. Only FILE is requested, in the first turn.
   abbrev pub Wants : Request → Fetches → ℕ → List ℕ → Type 0
   Wants request files turn name =
       (asked : Asked) × (certified_by request ≡ Some asked) × (turn ≡ 0) × (name ≡ asked.file)
@@ -95,7 +95,7 @@ module _ {D T E : Type 0} (language : Language D T E) (SectionOf : OutputsSectio
   }
 
   -- If a type is parsed from some FILE and TYPE (`IsGiven`), then a value has at most one
-  -- certificate entry at this type.
+  -- certificate entry at the type.
   abbrev pub AreCertifiedOnce : Type 0
   AreCertifiedOnce =
       (type : T) → IsGiven language type → (number : ℕ) (tree : Tree)

@@ -1,5 +1,6 @@
--- For a command with an output for each value by its number: how the input ends, what is refused of
--- it, and what the tables of such a command state about it.
+-- Definitions for a command that has an output for each value by the value's number. The
+-- definitions state how the input ends, which bytes of the input are refused, and what the status
+-- tables state about the input.
 use Rattle.std.specs.Prelude.{ℕ, ◌≡◌, ◌⊎◌, List, [], length}
 use Rattle.base_data.specs.declared.model.refusal.ReadRefusal.{ReadRefusal}
 use Rattle.marshal_spec.specs.format.Stream.{EncodeAll, End, clean, refused, cut, IsTail}
@@ -13,14 +14,14 @@ use Rattle.cli_spec.specs.declared.exit.Exit.TheVariants.{Value as value}
 use Rattle.run_spec.specs.runs.Commands.{Item}
 use Rattle.run_spec.specs.exit_statuses.Numbered.{HoldsOfAll}
 
--- After this many values the following bytes are refused.
+-- After `number` values, the bytes that follow are refused.
 pub record ComesRefused (limit number : ℕ) (bytes : List ℕ) (exit : Exit) : Type 0 where
   pub refusal : ReadRefusal
   pub tail : IsTail limit bytes (refused refusal)
   pub is : exit ≡ value number (refusal_text refusal)
 
 module _ (limit : ℕ) (EndsClean : ℕ → Reply → Type 0) where
-  -- The final reply if the bytes end after this many values, or inside one more value.
+  -- The final reply after `number` values, for each way in which the bytes end.
   abbrev pub EndsBy : ℕ → End → Reply → Type 0
   EndsBy number clean last = EndsClean number last
   EndsBy number (refused refusal) last = ⊥
@@ -33,7 +34,7 @@ module _ (limit : ℕ) (EndsClean : ℕ → Reply → Type 0) where
 -- ---- the tables, for values that have a property
 
 module _ (limit : ℕ) (Has : ℕ → Tree → Type 0) where
-  -- After values with the property the next bytes are refused.
+  -- The bytes begin with values with the property, and the bytes after the values are refused.
   pub record HoldRefusal (bytes : List ℕ) : Type 0 where
     pub trees : List Tree
     pub rest : List ℕ
@@ -42,7 +43,7 @@ module _ (limit : ℕ) (Has : ℕ → Tree → Type 0) where
     pub certified : HoldsOfAll Has 0 trees
     pub tail : IsTail limit rest (refused refusal)
 
-  -- After values with the property the bytes end inside one more value.
+  -- The bytes begin with values with the property, and end inside one more value.
   pub record AreSplit (bytes : List ℕ) : Type 0 where
     pub trees : List Tree
     pub rest : List ℕ
@@ -52,13 +53,13 @@ module _ (limit : ℕ) (Has : ℕ → Tree → Type 0) where
     pub tail : IsTail limit rest (cut n)
 
   module _ (Finish : List Tree → Status → Type 0) where
-    -- The bytes are values up to their end, and the run has this status there.
+    -- The bytes are whole values, and a run whose input ends after these values has this status.
     pub record AreFinished (bytes : List ℕ) (status : Status) : Type 0 where
       pub trees : List Tree
       pub encoded : EncodeAll limit bytes trees []
       pub finishes : Finish trees status
 
-    -- If the input is these bytes, then the run has this status at its end. The status is 4 if a
-    -- value is truncated.
+    -- If the input consists of these bytes, then the run has this status at the end of the input.
+    -- If a value is truncated, the status is 4.
     abbrev pub EndWith : List ℕ → Status → Type 0
     EndWith bytes status = AreFinished bytes status ⊎ ((status ≡ Value) × AreSplit bytes)

@@ -1,18 +1,18 @@
 -- Exit status specification of the command `check --cert`:
 --
--- - 0: Each value has an entry which proves that it has the type (`Finish`).
+-- - 0: Each value has an entry that proves that the value has the type (`Finish`).
 -- - 1: Each value has an entry, and one of the entries proves that its value does not have the type
 --   (`Finish`).
 -- - 2: The arguments are invalid.
--- - 3: The contents of FILE are refused, or TYPE is (`Bar`).
--- - 4: A value is refused (`HoldRefusal`) or truncated (`AreSplit`), and all values before it have
---   entries.
--- - 6: FILE is not read to its end (`Bar`).
+-- - 3: The contents of FILE or the text TYPE are refused (`Bar`).
+-- - 4: A value is refused (`HoldRefusal`) or truncated (`AreSplit`), and all values before the
+--   value have entries.
+-- - 6: FILE is not read to the end (`Bar`).
 -- - 8: FILE cannot be opened (`Bar`).
 -- - 10: FILE has 2^48 bytes or more (`Bar`).
 --
--- Neither the values nor the file cause any other status. The meanings of 6, 7, 9 and 10 for the
--- input, for out and for memory are the same for all commands; run_spec::runs defines them.
+-- Neither the values nor the file cause any other status. The definitions in run_spec::runs state
+-- what 6, 7, 9 and 10 mean for the input, for out and for memory.
 use Rattle.std.specs.Prelude.{ℕ, ◌≡◌, ◌≢◌, Bool, true, false, List, Some, Err}
 use Rattle.marshal_spec.specs.format.Tree.{Tree}
 use Rattle.cli_spec.specs.declared.status.Status.{Status}
@@ -32,8 +32,8 @@ use Rattle.cmd_certify.specs.spec.Certification.{Wants}
 use Rattle.cmd_certify.specs.spec.Ends as ends
 
 module _ {T : Type 0} (SectionOf : OutputsSections T) (a : Certification T) where
-  -- The value has a certificate entry, and `ok` says whether the entry proves that the value has
-  -- the type.
+  -- The value has a certificate entry. `ok` states whether the entry proves that the value has the
+  -- type.
   abbrev pub IsCertified : Bool → ℕ → Tree → Type 0
   IsCertified ok number tree =
       (output : Output) × SectionOf a.type number tree output × (output.ok ≡ ok)
@@ -47,17 +47,17 @@ module _ {T : Type 0} (SectionOf : OutputsSections T) (a : Certification T) wher
   Finish trees No = HoldsOfAll HasSection 0 trees × HoldsOfSome (IsCertified false) 0 trees
   Finish trees status = ⊥
 
-  -- If the input is these bytes, then the run has this status at its end. The status is 4 if a
-  -- value is truncated.
+  -- If the input consists of these bytes, then the run has this status at the end of the input. If
+  -- a value is truncated, the status is 4.
   abbrev pub EndWith : List ℕ → Status → Type 0
   EndWith bytes status = ends.EndWith a.limit HasSection Finish bytes status
 
-  -- The bytes end the run with this status, whatever follows them.
+  -- The bytes end the run with this status, for any bytes that follow.
   abbrev pub ExitWith : List ℕ → Status → Type 0
   ExitWith bytes status = (status ≡ Value) × ends.HoldRefusal a.limit HasSection bytes
 
 module _ {D T E : Type 0} (language : Language D T E) (SectionOf : OutputsSections T) where
-  -- FILE is read, and its contents are refused, or TYPE is.
+  -- FILE is read, and the contents of FILE or the text TYPE are refused.
   pub record RefusesTypes (request : Request) (files : Fetches) : Type 0 where
     pub asked : Asked
     pub is_asked : certified_by request ≡ Some asked
@@ -65,7 +65,7 @@ module _ {D T E : Type 0} (language : Language D T E) (SectionOf : OutputsSectio
     pub read : files 0 asked.file ≡ opened (whole text)
     pub is_refused : IsRefusedType language text asked.type
 
-  -- FILE is not read to its end, and the exit reason has this status.
+  -- FILE is not read to the end, and the exit reason has this status.
   pub record IsUnread (request : Request) (files : Fetches) (status : Status) : Type 0 where
     pub turn : ℕ
     pub name : List ℕ
@@ -74,7 +74,8 @@ module _ {D T E : Type 0} (language : Language D T E) (SectionOf : OutputsSectio
     pub fault : ReadsFile name (files turn name) (Err exit)
     pub is : status_of exit ≡ status
 
-  -- The request and the result of fetching its file end the run before the input, with this status.
+  -- The request and the result of fetching FILE end the run with this status, before the input is
+  -- read.
   abbrev pub Bar : Request → Fetches → Status → Type 0
   Bar request files Types = RefusesTypes request files
   Bar request files ReadFault = IsUnread request files ReadFault
@@ -90,7 +91,7 @@ module _ {D T E : Type 0} (language : Language D T E) (SectionOf : OutputsSectio
     EndWith = EndWith SectionOf;
   }
 
--- Statuses 5, 11 and 12 never occur.
+-- The call does not end with status 5, 11 or 12.
 abbrev pub IsNeverRejected : Call → Type 0
 IsNeverRejected call =
     (call.status ≢ Script) × (call.status ≢ Compat) × (call.status ≢ Certificate)

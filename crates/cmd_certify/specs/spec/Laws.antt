@@ -4,7 +4,7 @@ use Rattle.cli_spec.specs.Outcome.{Request, Language}
 use Rattle.run_spec.specs.command_sum.CommandSum.{IsIdleAt}
 use Rattle.cmd_certify.specs.spec.Certification.{OutputsSections, certified_by, certifying}
 
--- The command does nothing for a request that is not its own.
+-- The command does nothing for a request of another command.
 abbrev pub IsIdleElsewhere : {D T E : Type 0} → Language D T E → OutputsSections T → Type 0
 IsIdleElsewhere language SectionOf =
     (request : Request) → certified_by request ≡ None

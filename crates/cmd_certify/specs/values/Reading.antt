@@ -1,5 +1,5 @@
 -- The state of a command while the bytes of its input arrive: the values read so far, and the
--- output for them.
+-- output for the values.
 use Rattle.std.specs.Prelude.{ℕ, ◌<◌, ◌≡◌, Bool, List, [], ◌∷◌, ◌++◌, length, Result, Ok, Err}
 use Rattle.marshal_spec.specs.format.Prefix.{IsPrefix}
 use Rattle.marshal_read.specs.declared.reader.Reader.{Reader}
@@ -15,8 +15,8 @@ use Rattle.run_loop.specs.work.Works.{AreOutput}
 
 module _ {A : Type 0} (commands : Commands A) (a : A) (limit : ℕ) (Ready : Type 0)
     (reader : Reader) (count : ℕ) (ok : Bool) (taken : List ℕ) (output : List Output) where
-  -- The reader has taken the bytes after the complete values, which are a prefix of the next value.
-  -- `output` is the output for the complete values. The command's own state is ready.
+  -- The reader has consumed the bytes after the complete values, which are a prefix of the next
+  -- value. `output` is the output for the complete values. The command's own state is ready.
   pub record HasRead : Type 0 where
     pub ready : Ready
     pub items : List Item
@@ -27,7 +27,8 @@ module _ {A : Type 0} (commands : Commands A) (a : A) (limit : ℕ) (Ready : Typ
     pub counted : count ≡ length items
     pub is_all_ok : ok ≡ all_ok output
 
-  -- The same, if the reader has taken all bytes of the next value.
+  -- The reader has consumed all bytes of the value after the complete values. `output` is the
+  -- output for the complete values. The command's own state is ready.
   pub record IsValueRead : Type 0 where
     pub ready : Ready
     pub items : List Item
@@ -39,8 +40,9 @@ module _ {A : Type 0} (commands : Commands A) (a : A) (limit : ℕ) (Ready : Typ
     pub counted : count ≡ length items
     pub is_all_ok : ok ≡ all_ok output
 
--- The output for the current value is written, and the reader waits for the next value. Or the run
--- ends with an exit reason and writes nothing. Or writing the output fails.
+-- How the output for the current value is written. Case `Ok`: the output is written, and the reader
+-- waits for the next value. Case `Exit`: the run ends with an exit reason, and nothing is written.
+-- The last case is that writing the output fails.
 abbrev pub WritesNext : {A U : Type 0} → Commands A → A → ℕ → Type 0 → Reader → ℕ → Bool → List ℕ
     → List Output → (Exit → Type 0) → Change ByteState → Result U Error → Type 0
 WritesNext commands a limit Ready reader count ok taken output ExitsSo out (Ok unit) =

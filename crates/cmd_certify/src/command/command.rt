@@ -1,5 +1,5 @@
-//! The command `check --cert`: reads the file and certifies the values. The contract states that
-//! the run satisfies `Account`.
+//! The command `check --cert`: reads FILE and TYPE, and certifies the values of the input. The
+//! contract states that the run satisfies `Account`.
 
 ghost use Rattle.std.specs.Prelude.{List, ℕ};
 ghost use Rattle.types_table.specs.type_table.Made.{table_of};
@@ -26,8 +26,8 @@ use run_loop::work::run_reported;
 use run_types::{Requested, find_type};
 use std::alloc::Global;
 
-// Certifies the values at the type, given the least number of each class of equal types in its
-// table.
+// Certifies the values of the input at the requested type, given the least number of each class of
+// equal types in the type's table.
 fn certify_values<S: Source, K: Sink, E: Sink>(
     alloc: Global,
     requested: &Requested,
@@ -52,7 +52,7 @@ fn certify_values<S: Source, K: Sink, E: Sink>(
     run_reported(alloc, &mut skip_command, input, out, err)
 }
 
-// Computes the least numbers and certifies the values.
+// Computes the least number of each class of equal types, and certifies the values of the input.
 fn certify_by<S: Source, K: Sink, E: Sink>(
     alloc: Global,
     requested: &Requested,
@@ -80,7 +80,7 @@ fn certify_by<S: Source, K: Sink, E: Sink>(
     }
 }
 
-// Certifies the values at the type from FILE and TYPE.
+// Certifies the values of the input at the type that FILE and TYPE denote.
 fn certify_over<S: Source, K: Sink, E: Sink>(
     alloc: Global,
     requested: Requested,
@@ -97,7 +97,7 @@ fn certify_over<S: Source, K: Sink, E: Sink>(
     certify_by(alloc, &requested, reading, input, out, err)
 }
 
-/// Reads FILE and TYPE, and certifies the values. Returns the exit status.
+/// Reads FILE and TYPE, and certifies the values of the input. Returns the exit status.
 pub fn certify<S: Source, O: Opener, K: Sink, E: Sink>(
     alloc: Global,
     file: &str,

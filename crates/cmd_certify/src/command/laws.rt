@@ -1,4 +1,4 @@
-//! The laws. The functions do nothing and exist only for their contracts.
+//! Laws about certificate entries at declared types, as contracts of lemma functions.
 
 ghost use Rattle.std.specs.Prelude.{List};
 ghost use Rattle.types_spec.specs.declared.types.decl.Decl.{Decl};
@@ -10,7 +10,7 @@ ghost use Rattle.cmd_certify.specs.command.Certified.{declared_certificates};
 use crate::spec::laws::Certifies;
 use cert_verify::agreement::laws::tables_reach_agree;
 
-/// Certificates of values at declared types.
+/// The parameters of `check --cert` for values of declared types.
 pub struct DeclaredCertificates;
 
 impl Certifies for DeclaredCertificates {

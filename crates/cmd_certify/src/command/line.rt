@@ -37,7 +37,7 @@ pub fn value_section(
     Ok(section)
 }
 
-/// Returns true if the entry is that of a value that has the type.
+/// Returns true if the entry states that the value has the type.
 pub fn is_yes(section: &Section) -> bool
     ensures { result ≡ is_yes_section section.now }
 {

@@ -1,4 +1,4 @@
-//! The values of the input, one by one, while their bytes arrive, and their certificate entries.
+//! Certifies the values of the input, one by one, while their bytes arrive.
 
 ghost use Rattle.std.specs.Prelude.{◌≡◌, ◌<◌, ◌+◌, ◌^◌, ℕ, List, [], length, true};
 ghost use Rattle.base_data.specs.model.Graph.{IsValue};
@@ -26,19 +26,20 @@ use run_types::Requested;
 use std::alloc::Global;
 use std::mem;
 
-/// The greatest number of 64-bit words of a heap that is kept while an entry is written.
+/// If a heap has more than this many 64-bit words, the heap's memory is freed before the entry is
+/// written.
 const LARGE: u64 = 1 << 16;
 
-// Frees the memory of a large heap. The text of an entry has a line for each object and may be held
-// in memory as a whole.
+// Frees the memory of a large heap before the entry is written. The text of an entry has a line for
+// each object, and the whole text may be in memory.
 fn give_back(alloc: Global, heap: &mut Heap) {
     if heap.words() > LARGE {
         *heap = Heap::new(alloc);
     }
 }
 
-/// Writes the certificate entry of a value, with its number. Returns true if the value is ok. The
-/// value is not used afterwards.
+/// Writes the certificate entry of a value, with the value's number. Returns true if the value is
+/// ok. The memory of the value may be freed.
 fn write_output<K: Sink>(
     alloc: Global,
     heap: &mut Heap,
@@ -62,8 +63,8 @@ fn write_output<K: Sink>(
     }
 }
 
-/// The state of the command: the number of values so far, whether all are ok, the reader of the
-/// next value, and the type with the least numbers of its table.
+/// The state of the command. The state contains the number of values so far, whether all values are
+/// ok, the reader of the next value, and the type with its table's least numbers.
 #[derive(Drop)]
 pub struct Certifying<'a> {
     requested: &'a Requested,
@@ -75,7 +76,7 @@ pub struct Certifying<'a> {
 }
 
 impl<'a> Certifying<'a> {
-    /// Creates the state before any byte is taken. `limit` is the greatest number of 64-bit words
+    /// Creates the state before any byte is consumed. `limit` is the maximum number of 64-bit words
     /// in a value.
     pub fn new(
         alloc: Global,
@@ -102,7 +103,7 @@ impl<'a> Certifying<'a> {
     }
 
     /// Writes the entry of the value that the reader has read completely. A new reader for the next
-    /// value reuses the memory of this one.
+    /// value reuses the memory of the old reader.
     fn write_value<K: Sink>(&mut self, alloc: Global, out: &mut K) -> Result<(), Error>
         requires { (taken : List ℕ) × (output : List Output)
             × IsValueRead self.old.requested.now self.old.least_faults.now self.old.limit
@@ -154,13 +155,8 @@ impl Work for Certifying<'_> {
         true
     }
 
-    fn feed<K: Sink>(
-        &mut self,
-        alloc: Global,
-        buffered: &[u8],
-        out: &mut K,
-    ) -> Result<usize, Error> {
-        match self.reader.feed(buffered) {
+    fn feed<K: Sink>(&mut self, alloc: Global, chunk: &[u8], out: &mut K) -> Result<usize, Error> {
+        match self.reader.feed(chunk) {
             Ok(fed) => {
                 if fed.done {
                     self.write_value(alloc, out)?;

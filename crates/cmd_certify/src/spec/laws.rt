@@ -1,17 +1,10 @@
-//! Lemma functions. They do nothing at run time: the contract of each function is a law.
+//! Lemma functions, which do nothing at run time. The contract of each function is a law.
 
 ghost use Rattle.cli_spec.specs.Outcome.{Language};
-ghost use Rattle.run_spec.specs.runs.CommandLaws.{HaveOneOutcome, HaveOneExit, ExitsStay};
-ghost use Rattle.run_spec.specs.runs.CommandLaws.{ExitsAreLast, ArePromised, Follow};
-ghost use Rattle.run_spec.specs.runs.Causes.{AreAsKnown, AreMeant, IfArguments, IfFiles};
-ghost use Rattle.run_spec.specs.runs.Causes.{OnlyOpenFault};
-ghost use Rattle.run_spec.specs.runs.Causes.{IfMissing, OnlyTooLong, IfFileTooLong, IfInputTooLong};
-ghost use Rattle.run_spec.specs.runs.Causes.{IfInputFails, IfMemory, IfWriteFault, IsDecided};
-ghost use Rattle.run_spec.specs.runs.Causes.{IsExact, IsComplete};
+ghost use Rattle.run_spec.specs.runs.CommandLaws.{Follow};
 ghost use Rattle.run_spec.specs.runs.Lawful.{AreLawful, AreInTurns};
 ghost use Rattle.run_spec.specs.runs.LawfulLanguage.{IsLawful};
-ghost use Rattle.run_spec.specs.runs.Environment.{OnlyReadFault, OnlyWriteFault};
-ghost use Rattle.run_spec.specs.runs.RunSpec.{IfExit, IfEnd, IfUsage};
+ghost use Rattle.run_spec.specs.runs.RunLaws.{AnswerOnce, KeepRunSpec};
 ghost use Rattle.run_spec.specs.exit_causes.Causes.{AreExact, Causes};
 ghost use Rattle.cmd_certify.specs.spec.Laws.{IsIdleElsewhere};
 ghost use Rattle.cmd_certify.specs.spec.ExitStatuses.{certifying_tables, IsNeverRejected};
@@ -19,11 +12,11 @@ ghost use Rattle.cmd_certify.specs.spec.Certification.{Certification, OutputsSec
 ghost use Rattle.cmd_certify.specs.spec.Certification.{AreCertifiedOnce};
 
 use run_spec::exit_causes::laws::{Meant, causes_of_tables};
-use run_spec::runs::laws::{Act, files_in_turns, lawful_commands, promised, run_spec_of_commands};
+use run_spec::runs::laws::{Act, lawful_commands, lawful_commands_keep_run_spec};
 use std::marker::PhantomData;
 
-/// The parameters of the command: how texts are parsed as declarations, types and script lines, and
-/// the certificate entry for a value at a type.
+/// The parameters of the command. The parameters are how texts are parsed as declarations, types
+/// and script lines, and which certificate entry a value has at a type.
 pub trait Certifies {
     ghost declarations: { Type 0 };
 
@@ -36,7 +29,7 @@ pub trait Certifies {
     ghost SectionOf: { OutputsSections types };
 }
 
-/// The command `check --cert`, and its exit status specification.
+/// The command `check --cert` for the parameters `V`, with its exit status specification.
 pub struct OnCertified<V>(PhantomData<V>);
 
 impl<V: Certifies> Act for OnCertified<V> {
@@ -53,78 +46,52 @@ impl<V: Certifies> Meant for OnCertified<V> {
     ghost tables = { certifying_tables V.language V.SectionOf };
 }
 
-/// Proves that the command is lawful if the language is lawful and a value has one certificate
-/// entry.
+/// Proves that the command is lawful if the language is lawful and each value has at most one
+/// certificate entry.
 pub fn certifying_is_lawful<V: Certifies>()
     requires language { IsLawful V.language }
     requires once { AreCertifiedOnce V.language V.SectionOf }
     ensures { AreLawful (certifying V.language V.SectionOf) }
 {}
 
-/// Proves that the command fetches its file in the first turn.
+/// Proves that the command fetches FILE in the first turn and fetches no other file.
 pub fn certifying_takes_turns<V: Certifies>()
     requires language { IsLawful V.language }
     ensures { AreInTurns (certifying V.language V.SectionOf) }
 {}
 
 /// Proves that arguments, files and input have at most one outcome. The input contains at most one
-/// exit reason. It remains if more bytes follow, and bytes that contain it need no more bytes.
+/// exit reason. If more bytes follow, the exit reason remains. Bytes that contain the exit reason
+/// need no more bytes.
 pub fn certifying_answers_once<V: Certifies>()
     requires language { IsLawful V.language }
     requires once { AreCertifiedOnce V.language V.SectionOf }
-    ensures outcome { HaveOneOutcome (certifying V.language V.SectionOf) }
-    ensures exit { HaveOneExit (certifying V.language V.SectionOf) }
-    ensures stays { ExitsStay (certifying V.language V.SectionOf) }
-    ensures last { ExitsAreLast (certifying V.language V.SectionOf) }
+    ensures { AnswerOnce (certifying V.language V.SectionOf) }
 {
     certifying_is_lawful::<V>();
     lawful_commands::<OnCertified<V>>();
 }
 
-/// Proves that the specification of a run follows from its account, and that the other laws follow
-/// from the specification.
+/// Proves that the account of a run implies the specification of the run, and that the
+/// specification implies the other laws.
 pub fn certifying_keeps_run_spec<V: Certifies>()
     requires language { IsLawful V.language }
     requires once { AreCertifiedOnce V.language V.SectionOf }
-    ensures account { ArePromised (certifying V.language V.SectionOf) }
-    ensures exit { let c = certifying V.language V.SectionOf in Follow c (IfExit c) }
-    ensures end { let c = certifying V.language V.SectionOf in Follow c (IfEnd c) }
-    ensures usage { let c = certifying V.language V.SectionOf in Follow c (IfUsage c) }
-    ensures arguments { let c = certifying V.language V.SectionOf in Follow c (IfArguments c) }
-    ensures files { let c = certifying V.language V.SectionOf in Follow c (IfFiles c) }
-    ensures meant { let c = certifying V.language V.SectionOf in Follow c (AreMeant c) }
-    ensures as_known { let c = certifying V.language V.SectionOf in Follow c (AreAsKnown c) }
-    ensures read_fault { Follow (certifying V.language V.SectionOf) (λ arguments. OnlyReadFault) }
-    ensures write_fault { Follow (certifying V.language V.SectionOf) (λ arguments. OnlyWriteFault) }
-    ensures open_fault { let c = certifying V.language V.SectionOf in Follow c (OnlyOpenFault c) }
-    ensures missing { let c = certifying V.language V.SectionOf in Follow c (IfMissing c) }
-    ensures too_long { let c = certifying V.language V.SectionOf in Follow c (OnlyTooLong c) }
-    ensures file_too_long { let c = certifying V.language V.SectionOf in
-        Follow c (IfFileTooLong c) }
-    ensures input_too_long { let c = certifying V.language V.SectionOf in
-        Follow c (IfInputTooLong c) }
-    ensures input_fails { let c = certifying V.language V.SectionOf in Follow c (IfInputFails c) }
-    ensures memory { let c = certifying V.language V.SectionOf in Follow c (IfMemory c) }
-    ensures write_fault_by { let c = certifying V.language V.SectionOf in
-        Follow c (IfWriteFault c) }
-    ensures decided { let c = certifying V.language V.SectionOf in Follow c (IsDecided c) }
-    ensures exact { let c = certifying V.language V.SectionOf in Follow c (IsExact c) }
-    ensures complete { let c = certifying V.language V.SectionOf in Follow c (IsComplete c) }
+    ensures { KeepRunSpec (certifying V.language V.SectionOf) }
 {
     certifying_is_lawful::<V>();
     certifying_takes_turns::<V>();
-    promised::<OnCertified<V>>();
-    run_spec_of_commands::<OnCertified<V>>();
-    files_in_turns::<OnCertified<V>>();
+    lawful_commands_keep_run_spec::<OnCertified<V>>();
 }
 
-/// Proves that the command does nothing for any other request.
+/// Proves that the command does nothing for a request of another command.
 pub fn certifying_is_idle_elsewhere<V: Certifies>()
     ensures { IsIdleElsewhere V.language V.SectionOf }
 {}
 
-/// Proves that the status tables are exact. They determine what ends a run and how an input ends,
-/// by its values and their certificate entries, and what the arguments and the files cause.
+/// Proves that the status tables are exact. The values and their certificate entries determine what
+/// ends a run and how an input ends. The arguments and the files determine what ends a run before
+/// the input.
 pub fn sections_have_exit_statuses<V: Certifies>()
     ensures { AreExact (certifying V.language V.SectionOf)
         (certifying_tables V.language V.SectionOf) }

@@ -1,4 +1,5 @@
--- Proves `Account` for a run of `gen`: an error before the value is generated, or the value.
+-- The account of a run of `gen`. The run ends with an error before the value is generated, or with
+-- the line of the value.
 use Rattle.std.proofs.Common.{◌≡◌, ◌⊎◌, ℕ, List, [], Ok, Err, inl, inr, refl, ◌∙◌, subst, arith}
 use Rattle.cli_spec.specs.declared.status.Status.{Status}
 use Rattle.cli_spec.specs.Outcome.{unfetched, nothing, exits as exits_reply, stopped, ending_of, own, generate, Asks}
@@ -24,7 +25,6 @@ abbrev unfetched_files : Fetches
 unfetched_files turn name = unfetched
 
 module _ (words : List (List ℕ)) (files : FilesState) where
-  -- No file was fetched.
   none_fetched : FetchesFor (gen_spec declared_types) words (change files files) unfetched_files
   none_fetched = record {
     turns = 0;
@@ -68,7 +68,7 @@ module _ (words : List (List ℕ)) (files : FilesState) where
     abbrev Line : Exit → Type 0
     Line s = WritesLine err status (ending_of (stopped s))
 
-    -- The run reports the exit reason, or that memory ran out.
+    -- If the exit reason, or that memory ran out, is reported, then the run has an account.
     exit_account :
         (s : Exit)
         → (Prepares (gen_spec declared_types) words unfetched_files (Err s) ⊎ (s ≡ out_of_memory))
@@ -85,7 +85,7 @@ module _ (words : List (List ℕ)) (files : FilesState) where
 
   module _ (number count : ℕ) (type : List ℕ)
       (asks : Asks words (own (generate number count type))) where
-    -- TYPE is refused.
+    -- Case: TYPE is refused.
     pub type_account :
         (exit : Exit) → GivesItemType type (Err exit)
         → (input out : ByteState) (err : Change ByteState) (status : Status)
@@ -105,7 +105,7 @@ module _ (words : List (List ℕ)) (files : FilesState) where
           ),
         )) r
 
-    -- The value is generated.
+    -- Case: TYPE is valid, and the value is generated.
     pub made_account :
         (r : Prepared) → GivesItemType type (Ok r)
         → (input out err : Change ByteState) (status : Status)

@@ -1,4 +1,4 @@
--- The arguments request only numbers in their ranges.
+-- The arguments that request `gen` have a number and a count in their ranges.
 use Rattle.std.proofs.Common.{◌≡◌, ◌^◌, ◌<◌, ◌≤◌, ℕ, List, [], ◌∷◌, Bool, true, false, Some, subst, arith}
 use Rattle.std.specs.Prelude.{find, if◌then◌else◌}
 use Rattle.std.specs.Str.{bytes_eq}
@@ -6,12 +6,12 @@ use Rattle.clap.specs.Words.{Row}
 use Rattle.cli_spec.specs.declared.read_options.ReadOptions.{ReadOptions}
 use Rattle.cli_spec.specs.CommandLine.{Request, own, report, the_verdict, certify, generate, read_by, Form, forms, HasArguments, AreReadAs, Asks}
 
--- The requested numbers are in range.
+-- If the request is for `gen`, then the number and the count are in range.
 abbrev IsRanged : Request → Type 0
 IsRanged (own (generate number count type)) = (number < 2 ^ 31) × (count ≤ 1000000)
 IsRanged request = Unit {0}
 
--- A form of arguments requests only numbers in range.
+-- The form of arguments requests only numbers in range.
 abbrev AsksRanged : Form → Type 0
 AsksRanged form = (rows : List Row) (request : Request)
     → HasArguments form.arguments form.asks rows request → IsRanged request
@@ -34,7 +34,7 @@ found_ranged test (first ∷ rest) ranged form e =
 below_number : (n : ℕ) → n ≤ 2147483647 → n < 2 ^ 31
 below_number n fits = omega arith
 
--- If both requests are in range, then the chosen one is.
+-- If two requests are in range, then the chosen request is in range.
 either_ranged :
     (used : Bool) (one other : Request) → IsRanged one → IsRanged other
     → IsRanged (if used then one else other)

@@ -1,4 +1,4 @@
--- The line of a value is that of a tree of the value.
+-- The line of a value is the line of a tree of the value.
 use Rattle.std.proofs.Common.{◌≡◌, ◌∙◌, ℕ, Bool, List, [], ◌∷◌, ◌++◌, length, inl, inr, ap}
 use Rattle.base_data.specs.declared.model.value.Val.{Val}
 use Rattle.base_data.specs.declared.model.value.Obj.{Obj}

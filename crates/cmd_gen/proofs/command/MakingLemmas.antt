@@ -1,4 +1,4 @@
--- The command takes no input, and its final output is the line.
+-- The command consumes no input, and the final output is the line of the value.
 use Rattle.std.proofs.Common.{ℕ, List, [], Bool, Result, Ok, Err, inr, refl, sym, subst}
 use Rattle.cli_spec.specs.Outcome.{Output}
 use Rattle.cli_spec.specs.declared.exit.Exit.TheVariants.{Memory as out_of_memory}

@@ -1,4 +1,5 @@
--- TYPE over the declarations of the items means the same as over a file with these declarations.
+-- TYPE denotes over the declarations of the items what TYPE denotes over a file with these
+-- declarations.
 use Rattle.std.proofs.Common.{◌≡◌, ℕ, false, List, Some, None, Result, Ok, Err, inl, inr, sym, ◌∙◌, ap, subst}
 use Rattle.cli_spec.specs.Outcome.{opened, whole, Taken, asked_type, Then, OrRefusal, ReadsTypeOf}
 use Rattle.cli_spec.specs.declared.exit.Exit.{Exit}

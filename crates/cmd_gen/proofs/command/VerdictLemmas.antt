@@ -1,4 +1,4 @@
--- The verdict on a value, as the text that was appended.
+-- The appended text is the text of the verdict on the value.
 use Rattle.std.proofs.Common.{◌≡◌, ◌∙◌, ℕ, List, [], ◌++◌, true, false, inl, inr, refl, sym, ap, subst}
 use Rattle.std.specs.Prelude.{codes}
 use Rattle.base_data.specs.declared.model.value.Val.{Val}
@@ -12,7 +12,7 @@ use Rattle.cli_spec.specs.Outcome.{Output, the_verdict}
 use Rattle.run_types.specs.Language.{TypeOver, IsTypeLine}
 use Rattle.run_types.specs.Verdict.{WritesNo}
 
--- The output of a value without faults.
+-- The output for a value without faults.
 abbrev output_ok : List ℕ → Output
 output_ok text = record { text = text; ok = true }
 

@@ -32,7 +32,8 @@ empty_is = record {
   same = ([], record { one_to_one = λ k l m n a b. absurd (let none : a.0 < 0 = a.1 in omega arith); agree = λ k l a. absurd (let none : a.0 < 0 = a.1 in omega arith) }, refl);
 }
 
--- The tree numbers the objects from the last to the first.
+-- The pairs of object numbers in the tree and in the generated value. The tree numbers the objects
+-- from the last to the first.
 abbrev pairs : List (ℕ × ℕ)
 pairs = (4, 0) ∷ (3, 1) ∷ (2, 2) ∷ (1, 3) ∷ (0, 4) ∷ []
 

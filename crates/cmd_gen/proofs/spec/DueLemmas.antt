@@ -23,7 +23,7 @@ use Rattle.cmd_gen.specs.spec.ExitStatuses.{IsKnownOf, IsKnown, Gives, AskFor, I
 use Rattle.cmd_gen.proofs.spec.FindLemmas.{refused_type}
 
 module _ {D T E : Type 0} (language : Language D T E) where
-  -- The only reply is the line.
+  -- If a run has replies, then the only reply is the line of the value.
   alone_outputs :
       (a : Making T) (all : Replies) → OutputsAlone (gen_spec language) a all
       → (output : Output) × (all ≡ replies [] (outputs output)) × IsMadeLine language a output
@@ -46,7 +46,7 @@ module _ {D T E : Type 0} (language : Language D T E) where
       pub known : IsKnownOf language asked output
       pub is : all ≡ replies [] (outputs output)
 
-    -- Case: the run ends at its arguments or at TYPE.
+    -- Case: the run ends because of its arguments or because of TYPE.
     pub record IsExitOf (all : Replies) : Type 0 where
       pub exit : Exit
       pub is : all ≡ stopped exit
@@ -55,7 +55,7 @@ module _ {D T E : Type 0} (language : Language D T E) where
           × IsRefusedType language item_declarations (asked_type asked.type false))
 
     module _ (given : Given) where
-      -- The two cases of an outcome.
+      -- Each outcome is the line of the value or an exit reason.
       outcome_is :
           (all : Replies) → RunReplies (gen_spec language) arguments given all
           → IsLineOf all ⊎ IsExitOf all
@@ -98,7 +98,7 @@ module _ {D T E : Type 0} (language : Language D T E) where
                   is = one.1;
                 })
 
-      -- The line determines its status.
+      -- If there is an output for the value, then the output determines the status.
       line_gives :
           (asked : Asked) (ok : Bool) → IsKnown language asked ok
           → Gives language asked (if ok && true then statuses.AllOk else statuses.No)
@@ -122,7 +122,7 @@ module _ {D T E : Type 0} (language : Language D T E) where
             by (inr (asked, ask, is, refused)) =
                 subst (IsDue language arguments) (sym is) (inr (asked, ask, refused))
 
-      -- Conversely, if a status is due, then there is an outcome with it.
+      -- There is an outcome with the given status.
       abbrev HasOutcome : Status → Type 0
       HasOutcome status =
           (all : Replies) × RunReplies (gen_spec language) arguments given all
@@ -236,7 +236,7 @@ module _ {D T E : Type 0} (language : Language D T E) where
         by (inr write_or_memory_error) = inl write_or_memory_error
 
     module _ (call : Call) where
-      -- A status that is neither due nor caused by the environment does not occur.
+      -- If a status is neither due nor caused by the environment, then the status does not occur.
       not_due :
           HasWhatIsDue language arguments call → (status : Status) → (IsWriteOrMemoryError status → ⊥)
           → (IsDue language arguments status → ⊥) → call.status ≢ status
@@ -309,7 +309,7 @@ module _ {D T E : Type 0} (language : Language D T E) where
         due12 (inl h) = let e = h.1 in cc e
         due12 (inr h) = h.2
 
-      -- ---- the line
+      -- ---- the line of the value
 
       abbrev IsOkOrNo : Status → Type 0
       IsOkOrNo status = (status ≡ statuses.AllOk) ⊎ (status ≡ statuses.No)

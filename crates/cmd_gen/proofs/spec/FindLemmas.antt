@@ -1,4 +1,5 @@
--- TYPE is parsed in one way over the declarations of the items, as over a file that contains them.
+-- TYPE parses in one way over the declarations of the items, as over a file that contains the
+-- declarations.
 use Rattle.std.proofs.Common.{◌≡◌, ℕ, false, List, [], Some, None, Result, Ok, Err, inl, inr, refl, sym, ap, ◌∙◌, subst}
 use Rattle.cli_spec.specs.declared.status.Status.TheVariants.{Types}
 use Rattle.cli_spec.specs.Outcome.{Found, opened, whole, Request, asked_type, status_of, Language, Then, ReadsTypeOf}
@@ -13,11 +14,11 @@ use Rattle.run_spec.proofs.value_commands.GivenLemmas.{type_given}
 use Rattle.run_spec.specs.exit_statuses.Stages.{IsRefusedType}
 use Rattle.cmd_gen.specs.spec.GenSpec.{Asked, generated_by, Making, making, ReadsItemType, Finds}
 
--- Each file name has the declarations of the items.
+-- For every file name, the file contains the declarations of the items.
 abbrev items_file : List ℕ → Found
 items_file name = opened (whole item_declarations)
 
--- The arguments parse in one way.
+-- A request has only one parse as arguments of `gen`.
 same_asked :
     (request : Request) (asked other : Asked) → generated_by request ≡ Some asked
     → generated_by request ≡ Some other → asked ≡ other
@@ -36,7 +37,7 @@ module _ {D T E : Type 0} (language : Language D T E) where
       type_given language (record { file = items_file; script = items_file }) []
       (asked_type text false) type (as_typed text (Ok type) h)
 
-  -- If the run ends there, then TYPE is refused.
+  -- If reading TYPE ends the run, then TYPE is refused.
   pub refused_type :
       (text : List ℕ) (exit : Exit) → ReadsItemType language text (Err exit)
       → (status_of exit ≡ Types) × IsRefusedType language item_declarations (asked_type text false)
@@ -61,7 +62,7 @@ module _ {D T E : Type 0} (language : Language D T E) where
         by (inl inner) = inner
         by (inr fault) = let never : None ≡ Some exit = fault in absurd (cc never)
 
-    -- The task that is found for the parsed arguments.
+    -- The task or the exit reason that is found for the parsed arguments.
     abbrev FindsMaking : Asked → Result (Making T) Exit → Type 0
     FindsMaking asked =
         Then (ReadsItemType language asked.type) (λ type found. found ≡ Ok (making asked type))

@@ -1,4 +1,5 @@
--- If the language is lawful, then the command is. A value has one tree, and the tree has one line.
+-- If the language is lawful, then the command is lawful. A value has one tree, and the tree has one
+-- line.
 use Rattle.std.proofs.Common.{◌≡◌, ℕ, List, inl, sym, ap, ◌∙◌, subst}
 use Rattle.marshal_spec.specs.format.Tree.{Tree}
 use Rattle.marshal_spec.proofs.canonical.SameTree.{one_tree_only}
@@ -59,7 +60,7 @@ module _ {D T E : Type 0} (language : Language D T E) where
     at = λ a found. lawful_at lawful a (found_given language found.0 found.1 a found.2);
   }
 
-  -- The command requests no file.
+  -- The command fetches its files in turn, because the command requests no file.
   pub gen_spec_turns : AreInTurns (gen_spec language)
   gen_spec_turns = record {
     by_earlier = λ request files others turn name same h. h;

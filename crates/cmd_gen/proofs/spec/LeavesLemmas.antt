@@ -1,4 +1,4 @@
--- No file is fetched, and no input is read.
+-- A run of `gen` fetches no file and reads no input.
 use Rattle.std.proofs.Common.{◌≡◌, ◌≤◌, ℕ, zero, suc, List, inl, inr, sym, ◌∙◌, subst, arith}
 use Rattle.cli_spec.specs.Outcome.{Taken, Language}
 use Rattle.base_io.specs.State.{Change, FilesState, change}

@@ -12,15 +12,16 @@ use Rattle.cmd_gen.specs.generator.Line.{generated_text}
 use Rattle.cmd_gen.specs.spec.GenSpec.{Making}
 use Rattle.cmd_gen.specs.declared.command.verdict.Line.{Line}
 
--- The line as an output.
+-- The text of the line and whether the value is ok, as an `Output`.
 abbrev pub output_of : Line → Output
 output_of line = record { text = line.text.items; ok = line.ok }
 
--- The parameters of the command.
+-- The task of generating a value from `number` with `count` items, at the type of `r`.
 abbrev pub making_of : (number count : ℕ) → Prepared → Making TypeOver
 making_of number count r = record { number = number; count = count; type = type_over r }
 
--- The line of a value of a graph. Its verdict is that of a tree of the value.
+-- The output is the line for a value of a graph. The numbers and the verdict in the line are those
+-- of a tree of the value.
 pub record IsGraphLine (t : TypeOver) (graph : List Obj) (v : Val) (output : Output) : Type 0 where
   pub tree : Tree
   pub is_tree : IsTreeOf graph v tree
@@ -28,7 +29,8 @@ pub record IsGraphLine (t : TypeOver) (graph : List Obj) (v : Val) (output : Out
   pub is_verdict : IsTypeLine the_verdict t (objects_of tree 0) (root tree 0) verdict output.ok
   pub text_is : output.text ≡ line (generated_text tree verdict)
 
--- No input was taken, and the value can be generated and checked.
+-- The command has consumed no input and written no output. `number` and `count` are in range, and
+-- the type of `r` is ready for checks.
 pub record HasNothing (number count : ℕ) (r : Prepared) (bytes : List ℕ) (output : List Output)
     : Type 0 where
   pub none : bytes ≡ []

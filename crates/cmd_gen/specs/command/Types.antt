@@ -7,7 +7,8 @@ use Rattle.run_types.specs.Language.{declared_types}
 use Rattle.run_types.specs.Types.{type_over, IsReady}
 use Rattle.cmd_gen.specs.spec.GenSpec.{ReadsItemType}
 
--- The type, or the exit reason if there is none. Memory may also run out.
+-- The result contains the type that TYPE denotes, or the exit reason if TYPE is refused. The exit
+-- reason may also be that memory ran out.
 abbrev pub GivesItemType : List ℕ → Result Prepared Exit → Type 0
 GivesItemType text (Ok r) = ReadsItemType declared_types text (Ok (type_over r)) × IsReady r
 GivesItemType text (Err exit) =

@@ -1,5 +1,5 @@
--- Generated values: a list of items that a linear congruential generator modulo 2^31 draws. Items
--- may share earlier items.
+-- Generated values: a list of items that a linear congruential generator modulo 2^31 draws. An item
+-- may refer to earlier items, which are shared.
 use Rattle.std.specs.Prelude.{ℕ, zero, suc, ◌+◌, ◌*◌, ◌/◌, ◌%◌, ◌^◌, ◌==◌, if◌then◌else◌, List, []}
 use Rattle.std.specs.Prelude.{◌∷◌, ◌++◌, length, replicate, slice_index_or, pos, codes}
 use Rattle.base_data.specs.declared.model.value.Val.{Val}
@@ -16,29 +16,29 @@ abbrev pub item_declarations : List ℕ
 item_declarations =
     codes "type item = Nil | Num of int | Text of string | Pair of item * item | Cell of item ref"
 
--- ---- draws
+-- ---- draws of the random generator
 
--- The state after one more draw.
+-- The state of the random generator after one more draw.
 abbrev pub next_state : ℕ → ℕ
 next_state state = (state * 1103515245 + 12345) % 2 ^ 31
 
--- The number that a draw returns. It is computed from the state after the draw.
+-- The number that a draw returns, computed from the state after the draw.
 abbrev pub drawn : ℕ → ℕ
 drawn state = state / 256
 
--- The state after `n` draws.
+-- The state of the random generator after `n` draws.
 abbrev pub state_after : ℕ → ℕ → ℕ
 state_after zero state = state
 state_after (suc n) state = next_state (state_after n state)
 
--- The number of draw `k` from a state, counted from 1.
+-- The number that draw `k` from a state returns. Draws are counted from 1.
 abbrev pub draw : ℕ → ℕ → ℕ
 draw k state = drawn (state_after k state)
 
 -- ---- items
 
--- Returns item `i` of the given kind, computed from the drawn numbers `b` and `c`. A pair or a cell
--- refers to earlier items, so item 0 is neither a pair nor a cell.
+-- Item `i` of the given kind, computed from the drawn numbers `b` and `c`. A pair or a cell refers
+-- to earlier items. Item 0 is neither a pair nor a cell.
 abbrev pub item_of : (kind i b c : ℕ) → GeneratedItem
 item_of kind i b c =
     if kind == 0 then Nil
@@ -48,17 +48,17 @@ item_of kind i b c =
     else (if kind == 3 then Pair (b % i) (c % i)
     else Cell (b % i)))))
 
--- Item `i` takes three draws. The first draw chooses its kind.
+-- Item `i`, from three draws. The first draw chooses the kind of the item.
 abbrev pub item_at : ℕ → ℕ → GeneratedItem
 item_at i state = item_of (draw 1 state % 5) i (draw 2 state) (draw 3 state)
 
 -- ---- the objects of items
 
--- The value of earlier item `i`, or the integer 0 if there is none.
+-- The value of earlier item `i`. If there is no such item, the value is the integer 0.
 abbrev pub earlier : List Val → ℕ → Val
 earlier values i = slice_index_or values i (vals.Int (pos 0))
 
--- The objects of an item, numbered from `first`. `values` holds the values of the earlier items.
+-- The objects of an item, numbered from `first`. `values` contains the values of the earlier items.
 -- The constructors with arguments are `Num`, `Text`, `Pair` and `Cell`, with tags from 0.
 abbrev pub objects_of : (first : ℕ) → List Val → GeneratedItem → List Obj
 objects_of first values Nil = []
@@ -69,7 +69,7 @@ objects_of first values (Pair i j) = objects.Block 2 (earlier values i ∷ earli
 objects_of first values (Cell i) =
     objects.Block 0 (earlier values i ∷ []) ∷ objects.Block 3 (vals.Ref first ∷ []) ∷ []
 
--- The value of an item. If it is an object, it is the last of the item's objects.
+-- The value of an item. If the value is an object, the object is the last of the item's objects.
 abbrev pub value_of : (first : ℕ) → GeneratedItem → Val
 value_of first Nil = vals.Int (pos 0)
 value_of first (Num n) = vals.Ref first
@@ -83,7 +83,7 @@ pub record Made : Type 0 where
   pub values : List Val
   pub state : ℕ
 
--- Adds an item, its objects and its value.
+-- The items so far and one more item, with its objects and its value.
 abbrev pub with_item : Made → GeneratedItem → Made
 with_item made item = record {
   all = made.all ++ objects_of (length made.all) made.values item;
@@ -94,21 +94,21 @@ with_item made item = record {
 abbrev pub next_made : Made → Made
 next_made made = with_item made (item_at (length made.values) made.state)
 
--- The first `count` items.
+-- The first `count` items that are generated from `number`.
 abbrev pub items_made : ℕ → ℕ → Made
 items_made number zero = record { all = []; values = []; state = number }
 items_made number (suc count) = next_made (items_made number count)
 
 -- ---- the list of the items
 
--- Returns the OCaml list of the values: its objects and its root. The objects are `all` and then
--- the cells of the list, the last cell first.
+-- The objects and the root of the OCaml list of the values. The objects are `all`, followed by the
+-- cells of the list, the last cell first.
 abbrev pub listed : List Obj → List Val → List Obj × Val
 listed all [] = (all, vals.Int (pos 0))
 listed all (v ∷ vs) =
     let rest = listed all vs in
     (rest.0 ++ objects.Block 0 (v ∷ rest.1 ∷ []) ∷ [], vals.Ref (length rest.0))
 
--- The generated value for NUMBER and COUNT: its objects and its root.
+-- The objects and the root of the value that is generated for NUMBER and COUNT.
 abbrev pub generated : ℕ → ℕ → List Obj × Val
 generated number count = let made = items_made number count in listed made.all made.values

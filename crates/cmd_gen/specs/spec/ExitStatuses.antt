@@ -1,12 +1,12 @@
 -- Exit status specification of the command `gen`:
 --
--- - 0: TYPE is valid, and the value has it.
--- - 1: TYPE is valid, and the value does not have it.
+-- - 0: TYPE is valid, and the generated value has the type.
+-- - 1: TYPE is valid, and the generated value does not have the type.
 -- - 2: The arguments are invalid.
 -- - 3: TYPE is refused.
 --
--- Instead of each of these, the status can be 7 if writing to out or err fails, or 9 if memory runs
--- out. No other status occurs, whatever the input and the files are.
+-- If writing to out or err fails, the status can be 7 instead. If memory runs out, the status can
+-- be 9 instead. No other status occurs, for all inputs and files.
 use Rattle.std.specs.Prelude.{ℕ, ◌≡◌, ◌≢◌, ◌↔◌, ◌⊎◌, Bool, true, false, List, Some, Ok}
 use Rattle.cli_spec.specs.declared.status.Status.{Status}
 use Rattle.cli_spec.specs.declared.status.Status.TheVariants.{AllOk, No, Usage, Types, Value}
@@ -22,7 +22,7 @@ use Rattle.run_spec.specs.exit_statuses.Stages.{IsRefusedType}
 use Rattle.cmd_gen.specs.spec.GenSpec.{Asked, generated_by, making, IsMadeLine}
 
 module _ {D T E : Type 0} (language : Language D T E) where
-  -- TYPE is valid, and `output` is the output for the value.
+  -- TYPE is valid, and `output` is the output for the generated value.
   pub record IsKnownOf (asked : Asked) (output : Output) : Type 0 where
     pub decls : D
     pub are_declared : language.ReadsDeclarations false item_declarations (Ok decls)
@@ -30,11 +30,11 @@ module _ {D T E : Type 0} (language : Language D T E) where
     pub is_type : language.ReadsType decls (asked_type asked.type false) (Ok type)
     pub is_line : IsMadeLine language (making asked type) output
 
-  -- There is an output, and `ok` says whether the value has the type.
+  -- There is an output for the generated value, and `ok` states whether the value has the type.
   abbrev pub IsKnown : Asked → Bool → Type 0
   IsKnown asked ok = (output : Output) × IsKnownOf asked output × (output.ok ≡ ok)
 
-  -- The parsed arguments have this status.
+  -- The parsed arguments determine this status.
   abbrev pub Gives : Asked → Status → Type 0
   Gives asked AllOk = IsKnown asked true
   Gives asked No = IsKnown asked false
@@ -42,7 +42,7 @@ module _ {D T E : Type 0} (language : Language D T E) where
   Gives asked status = ⊥
 
   module _ (arguments : List (List ℕ)) where
-    -- The arguments parse to this.
+    -- The arguments parse to the request `asked`.
     abbrev pub AskFor : Asked → Type 0
     AskFor asked =
         (request : Request) × Asks arguments request × (generated_by request ≡ Some asked)
@@ -52,19 +52,20 @@ module _ {D T E : Type 0} (language : Language D T E) where
         (IsUsage arguments × (status ≡ Usage))
         ⊎ ((asked : Asked) × AskFor asked × Gives asked status)
 
-    -- The run has exactly the status that is due, unless memory ran out or writing failed.
+    -- The run has exactly the status that the arguments and TYPE determine, unless memory ran out
+    -- or writing failed.
     abbrev pub HasWhatIsDue : Call → Type 0
     HasWhatIsDue call =
         IsWriteOrMemoryError call.status
         ⊎ ((status : Status) → (call.status ≡ status) ↔ IsDue status)
 
-    -- If the status is 0 or 1, then out has the line and nothing else.
+    -- If the status is 0 or 1, then the line of the value and nothing else is written to out.
     abbrev pub WritesTheLine : Call → Type 0
     WritesTheLine call = (call.status ≡ AllOk) ⊎ (call.status ≡ No)
         → (asked : Asked) × AskFor asked × (output : Output) × IsKnownOf asked output
         × Writes call.out output.text
 
--- Statuses 4, 5, 6, 8, 10, 11 and 12 never occur.
+-- The call does not end with status 4, 5, 6, 8, 10, 11 or 12.
 pub record AreNever (call : Call) : Type 0 where
   pub value : call.status ≢ Value
   pub script : call.status ≢ Script
@@ -74,12 +75,13 @@ pub record AreNever (call : Call) : Type 0 where
   pub compat : call.status ≢ Compat
   pub certificate : call.status ≢ Certificate
 
--- No file is fetched, and no input is read.
+-- The call fetches no file and reads no input.
 pub record LeavesEnvironment (call : Call) : Type 0 where
   pub files : call.files.after ≡ call.files.before
   pub input : Gathers call.input nothing
 
--- Each status has its cause, and each cause has its status, whatever the input and the files are.
+-- The exit status specification of a call: each status has its cause, and each cause has its
+-- status, for all inputs and files.
 pub record Causes {D T E : Type 0} (language : Language D T E) (arguments : List (List ℕ))
     (call : Call)
     : Type 0 where

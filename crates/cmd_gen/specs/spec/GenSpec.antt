@@ -1,5 +1,5 @@
--- The command `gen` in the general form. It requests no file and reads no input. Its final reply is
--- the line of the generated value.
+-- The command `gen` in the general form of `Commands`. The command requests no file and reads no
+-- input. The final reply is the line of the generated value.
 use Rattle.std.specs.Prelude.{ℕ, ◌≡◌, false, List, [], Option, Some, None, Result, Ok}
 use Rattle.marshal_spec.specs.format.Isomorphism.{IsTreeOf}
 use Rattle.marshal_spec.specs.format.Tree.{Tree}
@@ -13,7 +13,7 @@ use Rattle.cmd_gen.specs.generator.Generated.{item_declarations, generated}
 use Rattle.cmd_gen.specs.generator.Line.{generated_text}
 use Rattle.run_spec.specs.runs.Commands.{Item, Fetches, Commands}
 
--- The parsed arguments: the number, the count of items that are made from it, and TYPE.
+-- The parsed arguments: the number, the count of items, and the text TYPE.
 pub record Asked : Type 0 where
   pub number : ℕ
   pub count : ℕ
@@ -24,7 +24,8 @@ generated_by (own (generate number count type)) =
     Some (record { number = number; count = count; type = type })
 generated_by request = None
 
--- The task: the output for the value that the number makes, at a type.
+-- The task of the command: to print the line for the value that is generated from the number, at a
+-- type.
 pub record Making (T : Type 0) : Type 0 where
   pub number : ℕ
   pub count : ℕ
@@ -34,13 +35,13 @@ pub record Making (T : Type 0) : Type 0 where
 abbrev pub making : {T : Type 0} → Asked → T → Making T
 making asked type = record { number = asked.number; count = asked.count; type = type }
 
--- A tree of the generated value.
+-- The tree is a tree of the generated value.
 abbrev pub IsMadeTree : (number count : ℕ) → Tree → Type 0
 IsMadeTree number count tree = IsTreeOf (generated number count).0 (generated number count).1 tree
 
 module _ {D T E : Type 0} (language : Language D T E) where
-  -- TYPE is parsed over the declarations of the items. Positions in TYPE are reported as byte
-  -- numbers.
+  -- The result of parsing TYPE over the declarations of the items. Errors in TYPE are reported with
+  -- their byte numbers.
   abbrev pub ReadsItemType : List ℕ → Result T Exit → Type 0
   ReadsItemType text =
       Then (OrRefusal (language.ReadsDeclarations false item_declarations) declarations) (λ decls.
@@ -51,7 +52,7 @@ module _ {D T E : Type 0} (language : Language D T E) where
       (asked : Asked) × (generated_by request ≡ Some asked)
       × Then (ReadsItemType asked.type) (λ type found. found ≡ Ok (making asked type)) result
 
-  -- The output for the value: the numbers of its canonical bytes, and its verdict.
+  -- The output for the generated value: the numbers of its canonical bytes, and its verdict.
   pub record IsMadeLine (a : Making T) (output : Output) : Type 0 where
     pub tree : Tree
     pub is_tree : IsMadeTree a.number a.count tree
@@ -59,7 +60,8 @@ module _ {D T E : Type 0} (language : Language D T E) where
     pub is_verdict : language.LineOf the_verdict a.type tree verdict output.ok
     pub text_is : output.text ≡ line (generated_text tree verdict)
 
-  -- The output comes before any byte of the input, and the run always ends with an output.
+  -- The final reply is the line of the generated value, before any byte of the input. The final
+  -- reply is never an exit reason.
   abbrev pub EndsWithLine : Making T → List Item → List ℕ → Reply → Type 0
   EndsWithLine a items bytes (outputs output) = (items ≡ []) × (bytes ≡ []) × IsMadeLine a output
   EndsWithLine a items bytes (exits exit) = ⊥

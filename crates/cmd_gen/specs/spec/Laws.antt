@@ -1,4 +1,4 @@
--- The command does nothing for a request that is not its own.
+-- The command does nothing for a request of another command.
 use Rattle.std.specs.Prelude.{◌≡◌, None}
 use Rattle.cli_spec.specs.Outcome.{Request, Language}
 use Rattle.run_spec.specs.command_sum.CommandSum.{IsIdleAt}

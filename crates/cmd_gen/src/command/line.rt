@@ -9,13 +9,13 @@ ghost use Rattle.cmd_gen.specs.command.Lines.{output_of, making_of, IsGraphLine}
 use crate::command::verdict::{Line, verdict_of};
 use crate::generator::{generate, generated_line};
 use base_data::model::Memory;
-use cli_errors::write::write;
+use base_data::text::write;
 use marshal_heap::heap::Rooted;
 use run_types::Requested;
 use std::alloc::Global;
 use text_print::same_type::{the_same_has_the_same_line, the_same_has_the_same_types};
 
-/// Returns the line of the value generated from `number`, with `count` items.
+/// Returns the output line for the value that is generated from `number`, with `count` items.
 pub fn made_line(
     alloc: Global,
     number: u64,
@@ -35,7 +35,7 @@ pub fn made_line(
     line_of(alloc, &value, requested)
 }
 
-/// Returns the line of a value.
+/// Returns the output line for a value: the numbers of its canonical bytes, and its verdict.
 fn line_of(alloc: Global, value: &Rooted<'_>, requested: &Requested) -> Result<Line, Memory>
     ensures { IfOk result (λ line. IsGraphLine (type_over requested.now) value.now.heap.now
         value.now.root (output_of line)) }

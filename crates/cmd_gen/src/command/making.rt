@@ -1,4 +1,4 @@
-//! The command as a value.
+//! The command `gen` as a value that implements `Work`.
 
 use crate::command::line::made_line;
 use base_io::{Sink, write_all};
@@ -7,8 +7,8 @@ use run_loop::work::Work;
 use run_types::Requested;
 use std::alloc::Global;
 
-/// Writes the line of the value that is generated from a number, with a given number of items, at a
-/// type.
+/// Writes the output line for the value that is generated from a number, with a given number of
+/// items, at a type.
 #[derive(Drop)]
 pub struct Generating<'a> {
     pub number: u64,
@@ -36,7 +36,7 @@ impl Work for Generating<'_> {
     fn feed<K: Sink>(
         &mut self,
         _alloc: Global,
-        _buffered: &[u8],
+        _chunk: &[u8],
         _out: &mut K,
     ) -> Result<usize, Error> {
         Ok(0)

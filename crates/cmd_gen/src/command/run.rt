@@ -1,11 +1,10 @@
-//! A whole run of the command.
+//! A whole run of the command `gen`.
 
 ghost use Rattle.std.specs.Prelude.{◌≡◌, ◌^◌, ◌<◌, ◌≤◌, List, ℕ};
 ghost use Rattle.cli_spec.specs.Outcome.{Asks, own, generate};
 ghost use Rattle.base_io.specs.State.{FilesState, change};
 ghost use Rattle.run_spec.specs.runs.Account.{Account};
 ghost use Rattle.run_spec.specs.runs.Call.{call};
-ghost use Rattle.cli_errors.specs.Exits.{Reports};
 ghost use Rattle.run_loop.specs.work.Reported.{HasAccount};
 ghost use Rattle.run_types.specs.Language.{declared_types};
 ghost use Rattle.cmd_gen.specs.spec.GenSpec.{gen_spec};
@@ -21,20 +20,13 @@ use run_loop::work::run_reported;
 use run_types::Requested;
 use std::alloc::Global;
 
-/// The greatest allowed NUMBER.
+/// The maximum value of the argument NUMBER.
 const GREATEST_NUMBER: u64 = 2147483647;
 
-/// The greatest allowed COUNT.
+/// The maximum value of the argument COUNT.
 const GREATEST_COUNT: u64 = 1000000;
 
-// Writes the error line of an exit reason to `err`, and returns the exit status.
-fn report<E: Sink>(alloc: Global, err: &mut E, exit: Exit) -> Status
-    ensures { Reports exit (change (E.state err.old) (E.state err.new)) result }
-{
-    report_exit(alloc, err, &exit)
-}
-
-/// Generates the value and writes its line.
+/// Generates the value and writes the line of the value.
 fn generate_at<S: Source, K: Sink, E: Sink>(
     alloc: Global,
     number: u64,
@@ -80,10 +72,10 @@ pub fn run_gen_spec<S: Source, K: Sink, E: Sink>(
     ensures unread { input.new ≡ input.old }
 {
     if number > GREATEST_NUMBER || count > GREATEST_COUNT {
-        return report(alloc, err, Exit::Usage);
+        return report_exit(alloc, err, &Exit::Usage);
     }
     match find_item_type(alloc, type_text) {
         Ok(requested) => generate_at(alloc, number, count, &requested, input, out, err),
-        Err(exit) => report(alloc, err, exit),
+        Err(exit) => report_exit(alloc, err, &exit),
     }
 }

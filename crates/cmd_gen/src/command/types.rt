@@ -1,4 +1,4 @@
-//! The argument TYPE, over the declarations of the items.
+//! Parses the argument TYPE over the declarations of the items.
 
 ghost use Rattle.std.specs.Prelude.{◌≡◌, IfOk};
 ghost use Rattle.cmd_gen.specs.generator.Generated.{item_declarations};
@@ -6,7 +6,7 @@ ghost use Rattle.cmd_gen.specs.command.Types.{GivesItemType};
 
 use crate::generator::declarations;
 use base_data::model::Memory;
-use cli_errors::write::write;
+use base_data::text::write;
 use cli_spec::exit::Exit;
 use run_types::{Gathered, InputEnd, Requested, read_gathered};
 use std::alloc::Global;
@@ -20,7 +20,8 @@ fn item_text(alloc: Global) -> Result<Vec<u8>, Memory>
     Ok(text)
 }
 
-/// Parses TYPE. The error is the exit reason.
+/// Parses TYPE over the declarations of the items. If TYPE is refused or memory runs out, the error
+/// is the exit reason.
 pub fn find_item_type(alloc: Global, type_text: &str) -> Result<Requested, Exit>
     ensures { GivesItemType type_text.now result }
 {

@@ -7,21 +7,22 @@ ghost use Rattle.run_types.specs.Types.{type_over};
 ghost use Rattle.run_types.specs.Verdict.{IsVerdictOf};
 
 use base_data::model::Memory;
+use base_data::text::write;
 use check_heap::check::Verdict;
-use cli_errors::write::write;
 use marshal_heap::heap::Rooted;
 use run_types::{Requested, find_verdict, write_no};
 use std::alloc::Global;
 use types_theory::table::tables_decide;
 
-/// The output for a value, and whether the value is ok.
+/// The text of the output for a value, and whether the value is ok.
 #[derive(Drop)]
 pub struct Line {
     pub text: Vec<u8>,
     pub ok: bool,
 }
 
-/// Returns `yes`, or `no` and the first fault.
+/// Checks a value. Returns `yes` if the value has the type. If the value does not have the type,
+/// returns `no` and the first fault.
 pub fn verdict_of(alloc: Global, value: &Rooted<'_>, requested: &Requested) -> Result<Line, Memory>
     ensures { IfOk result (λ line. IsTypeLine the_verdict (type_over requested.now)
         value.now.heap.now value.now.root line.text.items line.ok) }

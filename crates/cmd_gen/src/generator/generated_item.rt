@@ -5,19 +5,20 @@ ghost use Rattle.cmd_gen.specs.generator.Generated.{item_declarations, next_stat
 ghost use Rattle.cmd_gen.specs.generator.Generated.{item_at, state_after};
 ghost use Rattle.cmd_gen.specs.generator.Sound.{IsItem};
 
-/// An item: the numbers drawn for it, and the numbers of the earlier items to which it refers.
+/// An item: the numbers that were drawn for the item, and the numbers of the earlier items to which
+/// the item refers.
 #[derive(Clone, Copy)]
 pub enum GeneratedItem {
     Nil,
     Num(u64),
-    /// A string: its length in bytes, and the byte that it repeats.
+    /// A string, with its length in bytes and the byte that fills the string.
     Text(u64, u8),
     Pair(u64, u64),
     /// A new reference cell that contains an item.
     Cell(u64),
 }
 
-/// Returns the type of the items, as a file of declarations.
+/// Returns the declaration of the items' type, as the text of a file of declarations.
 pub fn declarations() -> &'static [u8]
     ensures { result.now ≡ item_declarations }
 {
@@ -36,7 +37,7 @@ fn draw(state: &mut u64) -> u64
     *state / 256
 }
 
-/// Draws item `i`. Every item takes three draws.
+/// Draws item `i`, with three draws of the random generator.
 pub fn draw_item(state: &mut u64, i: u64) -> GeneratedItem
     requires { state.old < 2 ^ 31 }
     ensures item { result ≡ item_at i state.old }
@@ -50,7 +51,7 @@ pub fn draw_item(state: &mut u64, i: u64) -> GeneratedItem
     item_by(kind, i, b, c)
 }
 
-/// Returns the item of a kind.
+/// Returns item `i` of the given kind, computed from the drawn numbers `b` and `c`.
 fn item_by(kind: u64, i: u64, b: u64, c: u64) -> GeneratedItem
     requires { b < 2 ^ 23 }
     ensures item { result ≡ item_of kind i b c }

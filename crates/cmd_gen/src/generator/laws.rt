@@ -1,9 +1,8 @@
-//! Laws over the definitions, as contracts of lemma functions.
+//! Laws about the definitions of the generator, as contracts of lemma functions.
 
 ghost use Rattle.cmd_gen.specs.generator.Worked.{Worked};
 
-/// States worked examples: the values that certain numbers generate, and the lines for these
-/// values.
+/// States worked examples: the values that some numbers generate, and the lines for these values.
 pub fn worked_values_are_generated()
     ensures { Worked }
 {}

@@ -13,8 +13,8 @@ use marshal_heap::heap::Rooted;
 use marshal_write::write::{head_of, write};
 use std::alloc::Global;
 
-/// Returns the line for a value: the number of its canonical bytes, their sum, its objects, its
-/// size in 64-bit words, and its verdict.
+/// Returns the line for a value: the number and the sum of the canonical bytes, the number of
+/// objects, the size in 64-bit words, and the verdict.
 pub fn generated_line(alloc: Global, value: &Rooted<'_>, verdict: &[u8]) -> Result<Vec<u8>, Memory>
     ensures { (tree : Tree) → IsTreeOf value.now.heap.now value.now.root tree
         → IfOk result (λ line. line.items ≡ generated_text tree verdict.now) }
@@ -44,7 +44,7 @@ fn tally_of(alloc: Global, value: &Rooted<'_>) -> Result<Tally, Memory>
     }
 }
 
-/// Appends a name and a number.
+/// Appends a name and a number in decimal.
 fn write_count(line: &mut Vec<u8>, name: &[u8], n: u64) -> Result<(), Memory>
     ensures { OnOk result (line.new.items ≡ line.old.items ++ name.now ++ decimal n) }
 {
@@ -52,7 +52,7 @@ fn write_count(line: &mut Vec<u8>, name: &[u8], n: u64) -> Result<(), Memory>
     append(line, Buffer::new().format(n).as_bytes())
 }
 
-/// Appends bytes.
+/// Appends the bytes to the line.
 fn append(line: &mut Vec<u8>, bytes: &[u8]) -> Result<(), Memory>
     ensures { OnOk result (line.new.items ≡ line.old.items ++ bytes.now) }
 {

@@ -1,4 +1,4 @@
-//! The value generator.
+//! Generates a value from a number.
 
 ghost use Rattle.std.specs.Prelude.{◌≡◌, ◌^◌, ◌<◌, ◌≤◌, length, OnOk, IfOk};
 ghost use Rattle.base_data.specs.model.Graph.{IsValue};
@@ -19,7 +19,8 @@ pub struct Generated {
     pub root: Val,
 }
 
-/// The items so far: their heap, their values, and the state of the random generator.
+/// The items so far: the heap with their objects, their values, and the state of the random
+/// generator.
 #[derive(Drop)]
 struct GeneratedItems {
     heap: Heap,
@@ -27,7 +28,7 @@ struct GeneratedItems {
     state: u64,
 }
 
-/// Generates the value of a number, with `count` items.
+/// Generates the value for `number`, with `count` items.
 pub fn generate(alloc: Global, number: u64, count: u64) -> Result<Generated, Memory>
     requires number { number < 2 ^ 31 }
     requires count { count ≤ 1000000 }
@@ -50,7 +51,7 @@ pub fn generate(alloc: Global, number: u64, count: u64) -> Result<Generated, Mem
 }
 
 impl GeneratedItems {
-    /// Adds an item.
+    /// Draws one more item, and appends the item's objects to the heap.
     fn add(&mut self) -> Result<(), Memory>
         requires { AreSound self.old }
         ensures made { OnOk result (made_of self.new ≡ next_made (made_of self.old)) }

@@ -33,8 +33,8 @@ fn add_two(heap: &mut Heap, tag: u8, v: Val, w: Val) -> Result<u64, Memory>
     heap.add_block_of(tag, &words)
 }
 
-/// Appends the objects of an item, and returns its value. `values` holds the values of the earlier
-/// items.
+/// Appends the objects of an item to the heap, and returns the value of the item. `values` contains
+/// the values of the earlier items.
 pub fn add_item(heap: &mut Heap, values: &[Val], item: GeneratedItem) -> Result<Val, Memory>
     requires values { All (IsValue (length heap.old)) values.now }
     requires item { IsItem (length values.now) item }
@@ -58,7 +58,7 @@ pub fn add_item(heap: &mut Heap, values: &[Val], item: GeneratedItem) -> Result<
     }
 }
 
-/// Appends a `Text` item with a string of `len` bytes.
+/// Appends the objects of a `Text` item with a string of `len` bytes.
 fn add_text(heap: &mut Heap, len: usize, byte: u8) -> Result<Val, Memory>
     requires { len < 40 }
     ensures objects { OnOk result
@@ -72,7 +72,7 @@ fn add_text(heap: &mut Heap, len: usize, byte: u8) -> Result<Val, Memory>
     Ok(Val::Ref(add_one(heap, 1, Val::Ref(of))?))
 }
 
-/// Appends the cells of the list of these values, the last cell first. Returns the list.
+/// Appends the cells of the OCaml list of these values, the last cell first. Returns the list.
 pub fn add_list(heap: &mut Heap, values: &[Val]) -> Result<Val, Memory>
     requires { All (IsValue (length heap.old)) values.now }
     ensures listed { IfOk result (λ list. (heap.new, list) ≡ listed heap.old values.now) }

@@ -5,7 +5,7 @@ ghost use Rattle.std.specs.Borrow.{ftrue};
 
 use std::marker::{Model, PhantomData};
 
-/// The bytes received so far. At run time nothing is stored.
+/// The bytes received so far, as a model. At run time nothing is stored.
 #[derive(Drop)]
 pub struct ReceivedBytes {
     marker: PhantomData<u8>,
@@ -26,7 +26,7 @@ impl ReceivedBytes {
         }
     }
 
-    /// Appends bytes.
+    /// Appends bytes to the model.
     pub(crate) fn add(&mut self, _more: &[u8])
         ensures { self.new.bytes ≡ self.old.bytes ++ _more.now }
     {}

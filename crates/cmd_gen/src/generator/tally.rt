@@ -12,8 +12,8 @@ use std::marker::Model;
 /// The maximum number of bytes that one call accepts.
 const MOST: usize = 65536;
 
-/// A sink that stores only the number and the sum of its bytes. A call fails if one of these would
-/// not fit in 64 bits.
+/// A sink that stores only the number and the sum of the written bytes. If the number or the sum
+/// would not fit in 64 bits, the call fails.
 #[derive(Drop)]
 pub struct Tally {
     count: u64,
@@ -70,7 +70,8 @@ impl Sink for Tally {
         ensures appends { AppendsPrefix (tally_state self.old) (tally_state self.new) result
             chunk.now }
 
-        // How many bytes a call accepts, and when it fails.
+        // A call accepts at most `MOST` bytes of the chunk. The call fails if the number or the sum
+        // of all bytes would not fit in 64 bits.
         ensures amount { IfOk result (λ n. n ≡ min (length chunk.now) MOST) }
         ensures fails { IsErr result
             ↔ HasNoRoom self.old (take (min (length chunk.now) MOST) chunk.now) }
@@ -95,7 +96,7 @@ impl Sink for Tally {
     }
 }
 
-/// Returns the sum of the bytes.
+/// Returns the sum of at most `MOST` bytes.
 fn sum_of(bytes: &[u8]) -> u64
     requires { length bytes.now ≤ MOST }
     ensures { result ≡ sum bytes.now }

@@ -13,7 +13,7 @@ abbrev unfetched_files : Fetches
 unfetched_files turn name = unfetched
 
 module _ (limit_by : Request → Option ℕ) (words : List (List ℕ)) (files : FilesState) where
-  -- No file was fetched.
+  -- The search fetches no file.
   none_fetched : FetchesFor (searching limit_by) words (change files files) unfetched_files
   none_fetched = record {
     turns = 0;

@@ -1,7 +1,7 @@
--- The effect of a call with buffered bytes: a prefix of a value is held afterwards, or the lines of
--- a stretch are written.
+-- The effect of a call with buffered bytes: the held bytes are a prefix of a value afterwards, or
+-- the lines of a stretch are written.
 use Rattle.std.proofs.Common.{◌≡◌, ℕ, true, false, List, [], ◌∷◌, ◌++◌, take, Option, Ok, sym, subst, append-nil, arith}
-use Rattle.std.specs.Prelude.{not, Err}
+use Rattle.std.specs.Prelude.{Err}
 use Rattle.marshal_read.specs.declared.reader.Reader.{Reader}
 use Rattle.base_io.specs.Sink.{Writes}
 use Rattle.base_io.specs.State.{ByteState, Change, change}
@@ -23,7 +23,7 @@ module _ (limit_by : Request → Option ℕ) (limit : ℕ) (held : List ℕ) (re
   abbrev HasSome : Type 0
   HasSome = (bytes : List ℕ) × (output : List Output) × Before bytes output
 
-  -- The bytes taken by the call.
+  -- The state after the call has taken bytes.
   abbrev Took : List ℕ → Reader → ℕ → Type 0
   Took held' reader' at' = (bytes : List ℕ) (output : List Output) → Before bytes output
       → HasTaken limit_by limit held' reader' at' buffered bytes output t
@@ -49,7 +49,7 @@ module _ (limit_by : Request → Option ℕ) (limit : ℕ) (held : List ℕ) (re
         ),
       )
 
-  -- The limit of a stretch does not change.
+  -- Replacing the limit by an equal number does not change that a stretch is held.
   pub stretch_limit :
       (limit' : ℕ) (held' : List ℕ) (at' : ℕ) (bytes : List ℕ) (output : List Output)
       → limit' ≡ limit → HasStretch limit_by limit held' at' bytes output
@@ -57,7 +57,7 @@ module _ (limit_by : Request → Option ℕ) (limit : ℕ) (held : List ℕ) (re
   stretch_limit limit' held' at' bytes output e h =
       subst (λ l. HasStretch limit_by l held' at' bytes output) (sym e) h
 
-  -- The limit does not change if writing fails.
+  -- Replacing the limit by an equal number does not change which errors are allowed.
   pub err_limit :
       (limit' : ℕ) (held' : List ℕ) (reader' : Reader) (at' : ℕ) (bytes : List ℕ)
       (output : List Output) (out : Change ByteState) (error : Error)

@@ -25,7 +25,7 @@ module _ (limit : ℕ) where
   no_prefix_value bytes tree encoded prefix =
       prefix_no_value limit bytes prefix bytes [] tree (sym (append-nil bytes)) encoded
 
-  -- The last byte of a value decides it.
+  -- The last byte of a value decides what the value's bytes begin with.
   pub value_decided :
       (bytes : List ℕ) (tree : Tree) → AreBytes bytes → EncodedUnder limit bytes tree
       → IsDecided limit bytes
@@ -38,7 +38,8 @@ module _ (limit : ℕ) where
         before = v.3;
       }
 
-  -- If one byte after a prefix makes it no prefix, then this byte decides.
+  -- Suppose bytes are a prefix of a value without their last byte, and no prefix with it. Then the
+  -- last byte decides what the bytes begin with.
   one_decides :
       (taken byte : List ℕ) → length byte ≡ 1 → IsPrefix limit taken
       → (IsPrefix limit (taken ++ byte) → ⊥) → IsDecided limit (taken ++ byte)
@@ -112,7 +113,7 @@ module _ (limit : ℕ) where
 
   -- ---- a chunk
 
-  -- One more byte of the chunk.
+  -- The first `n + 1` bytes of the chunk are the first `n` bytes and one more byte.
   pub next_byte :
       (held chunk : List ℕ) (n : ℕ)
       → (held ++ take n chunk) ++ take 1 (drop n chunk) ≡ held ++ take (n + 1) chunk
@@ -120,14 +121,14 @@ module _ (limit : ℕ) where
       append_assoc held (take n chunk) (take 1 (drop n chunk))
       ∙ ap (λ b. held ++ b) (sym (take-add n 1 chunk))
 
-  -- The same, if the byte is a slice of the chunk.
+  -- The first `n + 1` bytes of the chunk are the first `n` bytes and a slice of one byte.
   pub slice_next :
       (held chunk : List ℕ) (n k : ℕ) → k ≡ 1
       → (held ++ take n chunk) ++ take k (drop n chunk) ≡ held ++ take (n + 1) chunk
   slice_next held chunk n k one =
       ap (λ k. (held ++ take n chunk) ++ take k (drop n chunk)) one ∙ next_byte held chunk n
 
-  -- The result of the reader on the chunk.
+  -- If the reader takes bytes of the chunk, then the result is as `TakesBytes` states.
   pub chunk_taken :
       (held chunk : List ℕ) (new : Reader) (fed : Fed) (t : TakenBytes) → 0 < length chunk
       → IsPrefix limit held → Feeds limit held chunk new fed → t.bytes ≡ fed.taken
@@ -157,7 +158,7 @@ module _ (limit : ℕ) where
           absurd (no_prefix_value held v.0 (subst (λ b. EncodedUnder limit b v.0) same v.1) prefix)
       by (suc n) is = omega (arith, is)
 
-  -- The result of reading the chunk again.
+  -- If the chunk is read again and a byte decides, then the result is as `TakesBytes` states.
   pub chunk_found :
       (held chunk : List ℕ) (new : Reader) (t : TakenBytes) → (0 < t.bytes) × (t.bytes ≤ length chunk)
       × IsDecided limit (held ++ take t.bytes chunk) → t.decided ≡ true

@@ -1,10 +1,11 @@
 -- The state of the search, as bytes are taken and stretches are written.
 use Rattle.std.proofs.Common.{◌≡◌, ℕ, ◌+◌, ◌≤◌, Bool, true, List, [], ◌∷◌, ◌++◌, length, take, drop, Option, Result, Ok, Err, inr, refl, sym, ap, ◌∙◌, subst, append_assoc, append-nil, length-append, take-append-drop, take-take, arith}
-use Rattle.std.proofs.lemmas.List.{length-take-le}
+use Rattle.std.proofs.lemmas.List.{length-take-le, take_all, drop_all}
 use Rattle.std.specs.Prelude.{◌&&◌, IsErrAnd}
 use Rattle.marshal_spec.specs.format.Prefix.{IsPrefix}
 use Rattle.marshal_read.specs.declared.reader.Reader.{Reader}
-use Rattle.marshal_read.specs.Reader.{Leads}
+use Rattle.marshal_read.specs.declared.value.Value.{Value}
+use Rattle.marshal_read.specs.Reader.{Leads, Finishes}
 use Rattle.base_io.specs.Sink.{Writes, WritesPart}
 use Rattle.base_io.specs.State.{ByteState, Change, change}
 use Rattle.cli_spec.specs.Outcome.{Request, Output}
@@ -18,10 +19,11 @@ use Rattle.run_spec.proofs.runs.ValueLemmas.{all_ok-snoc}
 use Rattle.run_loop.specs.work.Works.{ItemsStay, AreOutput, AbortsIn, WritesLast}
 use Rattle.run_loop.proofs.work.FirstLemmas.{first_stays, first_next}
 use Rattle.cmd_scan.specs.found.Parts.{bytes_of, BeginNoValue, AreRefused}
-use Rattle.cmd_scan.specs.found.Positions.{positions_of, lines_of}
+use Rattle.cmd_scan.specs.found.Positions.{positions_of, line_of, lines_of}
 use Rattle.cmd_scan.proofs.found.OnceLemmas.{nothing_prefix}
 use Rattle.cmd_scan.proofs.found.SomeLemmas.{IsSettled, stretch_of}
-use Rattle.cmd_scan.specs.sweep.Swept.{WritesParts, Takes}
+use Rattle.cmd_scan.specs.sweep.Swept.{position_read, WritesParts, Takes}
+use Rattle.cmd_scan.proofs.sweep.NextLemmas.{value_part}
 use Rattle.cmd_scan.proofs.sweep.PartsLemmas.{rest_is}
 use Rattle.cmd_scan.specs.spec.Searching.{bytes_in, IsFirstStretch, OutputsPositions, searching}
 use Rattle.cmd_scan.proofs.spec.LawfulLemmas.{goes_on, lawful_at}
@@ -57,7 +59,7 @@ module _ (limit_by : Request → Option ℕ) (limit : ℕ) where
     goes_on = goes_on limit limit_by h.items held h.is_prefix;
   }
 
-  -- The bytes of the items and the rest are all bytes.
+  -- The lengths of the items and of the bytes after them add up to the length of all bytes.
   split_length :
       (before : List Item) (bytes : List ℕ) (items : List Item) (rest : List ℕ)
       → Split (searching limit_by) limit before bytes items rest
@@ -75,6 +77,57 @@ module _ (limit_by : Request → Option ℕ) (limit : ℕ) where
       → at + length held ≡ length bytes
   room held at bytes output items first is =
       let size = split_length [] bytes items held first.split in omega (arith, size, is)
+
+  -- ---- the state without the reader
+
+  -- The stretches in these bytes were taken, and `output` is their output. The held bytes are a
+  -- prefix of a value. `at` bytes come before the held bytes.
+  pub record HasKept (held : List ℕ) (at : ℕ) (bytes : List ℕ) (output : List Output) : Type 0 where
+    pub items : List Item
+    pub first : OutputsFirst (searching limit_by) limit bytes items output held
+    pub is_prefix : IsPrefix limit held
+    pub at_is : at ≡ bytes_in items
+
+  pub kept_of :
+      (held : List ℕ) (reader : Reader) (at : ℕ) (bytes : List ℕ) (output : List Output)
+      → HasSearched limit_by limit held reader at bytes output → HasKept held at bytes output
+  kept_of held reader at bytes output h =
+      record { items = h.items; first = h.first; is_prefix = h.is_prefix; at_is = h.at_is }
+
+  pub searched_of :
+      (held : List ℕ) (reader : Reader) (at : ℕ) (bytes : List ℕ) (output : List Output)
+      → HasKept held at bytes output → Leads limit held reader
+      → HasSearched limit_by limit held reader at bytes output
+  searched_of held reader at bytes output h leads = record {
+    items = h.items;
+    first = h.first;
+    is_prefix = h.is_prefix;
+    leads = leads;
+    at_is = h.at_is;
+  }
+
+  pub kept_holds :
+      (held : List ℕ) (at : ℕ) (bytes : List ℕ) (output : List Output)
+      → HasKept held at bytes output → HaveNoExit (searching limit_by) limit bytes output
+  kept_holds held at bytes output h = record {
+    items = h.items;
+    rest = held;
+    first = h.first;
+    goes_on = goes_on limit limit_by h.items held h.is_prefix;
+  }
+
+  -- If the next bytes decide what the held bytes begin with, then the held bytes and the next bytes
+  -- are a stretch.
+  pub kept_stretch :
+      (held : List ℕ) (at : ℕ) (bytes : List ℕ) (output : List Output) (more : List ℕ)
+      → HasKept held at bytes output → IsDecided limit (held ++ more)
+      → HasStretch limit_by limit (held ++ more) at (bytes ++ more) output
+  kept_stretch held at bytes output more h decided = record {
+    items = h.items;
+    first = first_stays (searching limit_by) limit stretches_stay bytes h.items output held more h.first;
+    decided = decided;
+    at_is = h.at_is;
+  }
 
   -- ---- bytes are taken
 
@@ -101,7 +154,7 @@ module _ (limit_by : Request → Option ℕ) (limit : ℕ) where
       at_is = h.at_is;
     }
 
-  -- Some of the buffered bytes.
+  -- The state after some of the buffered bytes are taken.
   pub some_taken :
       (held : List ℕ) (reader : Reader) (at : ℕ) (bytes : List ℕ) (output : List Output)
       → HasSearched limit_by limit held reader at bytes output
@@ -132,7 +185,8 @@ module _ (limit_by : Request → Option ℕ) (limit : ℕ) where
 
   -- ---- a stretch is written
 
-  -- The result for a slice, starting with an empty text.
+  -- If parts are taken from a slice that equals the held bytes, then they are taken from the held
+  -- bytes.
   pub taken_of :
       (None : List ℕ → Type 0) (held slice old write rest : List ℕ) (at n : ℕ) → slice ≡ held
       → old ≡ [] → Takes limit at slice old write None n rest → Takes limit at held [] write None n rest
@@ -174,7 +228,7 @@ module _ (limit_by : Request → Option ℕ) (limit : ℕ) where
           (h.decided.prefix, h.decided.last, h.decided.bytes_are, h.decided.before) settled;
     }
 
-    -- This is the output for the stretch.
+    -- The output for the stretch.
     abbrev pub next_output : Output
     next_output = record {
       text = lines_of (positions_of (bytes_in h.items) t.0.parts);
@@ -195,6 +249,14 @@ module _ (limit_by : Request → Option ℕ) (limit : ℕ) where
     pub stretch_output : AreOutput (searching limit_by) limit bytes (output ++ next_output ∷ [])
     stretch_output = (h.items ++ text (bytes_of t.0.parts) ∷ [], rest, first_output)
 
+    pub stretch_kept : HasKept rest (at + n) bytes (output ++ next_output ∷ [])
+    stretch_kept = record {
+      items = h.items ++ text (bytes_of t.0.parts) ∷ [];
+      first = first_output;
+      is_prefix = prefix;
+      at_is = omega (arith, h.at_is, t.1, bytes_in-snoc h.items (bytes_of t.0.parts));
+    }
+
     pub stretch_written :
         (reader : Reader) (left : List ℕ) (position : ℕ) → Leads limit rest reader
         → left ≡ drop n held → position ≡ at + n
@@ -211,6 +273,22 @@ module _ (limit_by : Request → Option ℕ) (limit : ℕ) where
           at_is =
               omega (arith, position_is, h.at_is, t.1, bytes_in-snoc h.items (bytes_of t.0.parts));
         })
+
+  -- ---- a value is written
+
+  -- If the held bytes are one value, then the value is the only part.
+  pub whole_taken :
+      (held write : List ℕ) (at : ℕ) (value : Value) → Finishes limit held value
+      → write ≡ [] ++ line_of (position_read at (length held) value)
+      → Takes limit at held [] write (AreRefused limit) (length held) []
+  whole_taken held write at value finishes line =
+      let fits : length held ≤ length held = omega arith in
+      let p = value_part limit at held [] write (length held) value fits
+      (subst (λ b. Finishes limit b value) (sym (take_all (length held) held fits)) finishes) line in
+      let none : p.1 ≡ [] =
+      sym (rest_is limit at held [] (AreRefused limit) write (length held) p.1 p.2)
+      ∙ drop_all (length held) held fits in
+      subst (λ r. Takes limit at held [] write (AreRefused limit) (length held) r) none p.2
 
   -- ---- errors
 
@@ -243,7 +321,8 @@ module _ (limit_by : Request → Option ℕ) (limit : ℕ) where
     pub memory_aborts : (o : ByteState) → Aborts (change o o) (aborts.Exit out_of_memory)
     memory_aborts o = (holds held reader at bytes output h, inr refl, writes_nothing o)
 
-    -- The error is at the stretch that ends there.
+    -- If `WritesNext` fails at a stretch that ends within the buffered bytes, then the run ends
+    -- with the error.
     pub next_aborts :
         (n : ℕ) (out : Change ByteState) (held' : List ℕ) (reader' : Reader) (at' : ℕ)
         (error : Error)

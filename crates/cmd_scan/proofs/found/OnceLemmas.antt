@@ -16,7 +16,7 @@ use Rattle.marshal_spec.proofs.format.TokenStepLemmas.{header_length-from, heade
 use Rattle.cmd_scan.specs.found.Parts.{Part, passed, sighted, bytes_of, BeginNoValue, AreRefused, AreParts, IsStretch}
 use Rattle.cmd_scan.proofs.found.PrefixLemmas.{refused_no_value, no_prefix, stretch_no_prefix, part_some}
 
--- At most one value begins the bytes.
+-- At most one value is encoded at the start of some bytes.
 pub value_once :
     (limit : ℕ) (v w x y : List ℕ) (t u : Tree) → v ++ x ≡ w ++ y → EncodedUnder limit v t
     → EncodedUnder limit w u → (v ≡ w) × (t ≡ u) × (x ≡ y)

@@ -22,7 +22,7 @@ module _ (limit : ℕ) (bytes : List ℕ) where
   refused_no_prefix (n, refusal, within, refused) prefix =
       prefix_or_refused limit bytes n refusal prefix refused
 
-  -- If bytes are refused, then they are refused with more bytes after them.
+  -- If bytes are refused, then the bytes with more bytes after them are refused.
   pub refused_after : (later : List ℕ) → AreRefused limit bytes → AreRefused limit (bytes ++ later)
   refused_after later (n, refusal, within, refused) = (
     n,
@@ -31,7 +31,8 @@ module _ (limit : ℕ) (bytes : List ℕ) where
     subst (λ b. IsRefused limit b refusal) (sym (take-append-le n bytes later within)) refused,
   )
 
--- If no value begins, then none begins with fewer bytes after it.
+-- If no value is encoded at the start of some bytes, then none is encoded at the start of a prefix
+-- of the bytes.
 pub none_before :
     (limit : ℕ) (bytes later : List ℕ) → BeginNoValue limit (bytes ++ later)
     → BeginNoValue limit bytes

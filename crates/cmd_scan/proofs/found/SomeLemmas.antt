@@ -36,7 +36,8 @@ module _ (limit : ℕ) where
   parts-append None (sighted bytes tree ∷ xs) ys rest are more =
       (are.0, parts-append None xs ys rest are.1 more)
 
-  -- The claim with a weaker condition on skipped bytes.
+  -- If parts are valid for a condition on skipped bytes, then they are valid for each weaker
+  -- condition.
   pub parts-map :
       (None Other : List ℕ → Type 0) → ((bytes : List ℕ) → None bytes → Other bytes)
       → (parts : List Part) (rest : List ℕ) → AreParts limit None parts rest
@@ -47,13 +48,13 @@ module _ (limit : ℕ) where
   parts-map None Other f (sighted bytes tree ∷ parts) rest are =
       (are.0, parts-map None Other f parts rest are.1)
 
-  -- If parts are determined by refusals, then they are parts of the input.
+  -- If parts are determined by refusals, then no value begins at their skipped bytes.
   pub undecided :
       (parts : List Part) (rest : List ℕ) → AreParts limit (AreRefused limit) parts rest
       → AreParts limit (BeginNoValue limit) parts rest
   undecided = parts-map (AreRefused limit) (BeginNoValue limit) (refused_no_value limit)
 
-  -- Determined parts stay parts with more bytes after them.
+  -- If parts are determined, then they are determined with more bytes after them.
   pub parts-after :
       (parts : List Part) (rest later : List ℕ) → AreParts limit (AreRefused limit) parts rest
       → AreParts limit (AreRefused limit) parts (rest ++ later)
@@ -66,7 +67,7 @@ module _ (limit : ℕ) where
   parts-after (sighted bytes tree ∷ parts) rest later are =
       (are.0, parts-after parts rest later are.1)
 
-  -- If no value begins at skipped bytes, then none begins there without the rest.
+  -- If parts are valid before some bytes, then they are valid at the end of the input.
   pub parts-before :
       (parts : List Part) (rest : List ℕ) → AreParts limit (BeginNoValue limit) parts rest
       → AreParts limit (BeginNoValue limit) parts []
@@ -80,7 +81,7 @@ module _ (limit : ℕ) where
 
   -- ---- stretches
 
-  -- Determined parts, and a value prefix after them.
+  -- The bytes are determined parts followed by a prefix of a value.
   pub record IsSettled (bytes : List ℕ) : Type 0 where
     pub parts : List Part
     pub pending : List ℕ
@@ -88,7 +89,8 @@ module _ (limit : ℕ) where
     pub are : AreParts limit (AreRefused limit) parts pending
     pub is_prefix : IsPrefix limit pending
 
-  -- If the last byte is necessary to determine the beginning, then the bytes are a stretch.
+  -- Suppose bytes are no prefix of a value, but are one without their last byte. Then the
+  -- determined parts and the pending bytes are a stretch.
   pub stretch_of :
       (bytes : List ℕ) → (IsPrefix limit bytes → ⊥)
       → (prefix : List ℕ) × (last : ℕ) × (bytes ≡ prefix ++ last ∷ []) × IsPrefix limit prefix
@@ -143,7 +145,7 @@ module _ (limit : ℕ) where
 
   -- ---- existence of determined parts
 
-  -- The first part, by induction on the number of bytes.
+  -- The parts of some bytes exist, by induction on the number of bytes.
   first_settled :
       (b : ℕ) (bytes : List ℕ) → AreBytes (b ∷ bytes) → (judgement : Judgement)
       → Judges limit (b ∷ bytes) judgement

@@ -1,4 +1,4 @@
--- Each input has exactly one list of positions, and it covers all values.
+-- Each input has exactly one list of positions, and the list covers all values.
 use Rattle.std.proofs.Common.{◌≡◌, ℕ, zero, suc, ◌+◌, ◌≤◌, List, [], ◌∷◌, ◌++◌, length, take, drop, inl, inr, refl, sym, ap, ◌∙◌, subst, append_assoc, append-nil, length-append, length-drop, take-append-drop, take_at, drop_at, arith}
 use Rattle.std.proofs.lemmas.Bool.{cases_lt}
 use Rattle.std.proofs.lemmas.List.{length-take-le}
@@ -22,7 +22,7 @@ module _ (limit : ℕ) where
   Has bytes =
       (parts : List Part) × (bytes ≡ bytes_of parts) × AreParts limit (BeginNoValue limit) parts []
 
-  -- One byte is skipped.
+  -- If no value begins at a byte, then the byte is skipped before the parts of the bytes after it.
   pass : (b : ℕ) (bytes : List ℕ) → BeginNoValue limit (b ∷ bytes) → Has bytes → Has (b ∷ bytes)
   pass b bytes none (parts, is, are) = (
     passed b ∷ parts,
@@ -30,7 +30,7 @@ module _ (limit : ℕ) where
     (subst (λ x. BeginNoValue limit (b ∷ x)) (is ∙ sym (append-nil (bytes_of parts))) none, are),
   )
 
-  -- The first part, by induction on the number of bytes.
+  -- The parts of some bytes exist if no more bytes follow, by induction on the number of bytes.
   first_part :
       (b : ℕ) (bytes : List ℕ) → AreBytes (b ∷ bytes) → (judgement : Judgement)
       → Judges limit (b ∷ bytes) judgement
@@ -81,13 +81,15 @@ module _ (limit : ℕ) (input : List ℕ) where
   earlier from other (position ∷ positions) less (after, is, more) =
       (omega (arith, less, after), is, more)
 
-  -- If an offset is inside a later position, then it is inside one of all positions.
+  -- Each value that is encoded at or after the offset of the bytes `before` begins inside one of
+  -- the positions.
   abbrev Covers : List ℕ → List Position → Type 0
   Covers before positions =
       (offset size : ℕ) (tree : Tree) → length before ≤ offset
       → IsEncodedAt limit input offset size tree → IsInside offset positions
 
-  -- If a value is encoded at the offset after these bytes, then the remaining bytes begin with it.
+  -- If a value is encoded at the offset after the bytes `before`, then the remaining bytes begin
+  -- with a value.
   at_prefix :
       (before after : List ℕ) (offset size : ℕ) (tree : Tree) → input ≡ before ++ after
       → offset ≡ length before → IsEncodedAt limit input offset size tree

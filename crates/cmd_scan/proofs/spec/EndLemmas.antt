@@ -13,7 +13,7 @@ use Rattle.cmd_scan.proofs.spec.LawfulLemmas.{stretch_some}
 use Rattle.cmd_scan.proofs.spec.OutputLemmas.{positions_output, output_of_stretch}
 
 module _ (limit : ℕ) where
-  -- The first bytes that are no prefix of a value, and the bytes after them.
+  -- The bytes begin with `whole`, the shortest start of the bytes that is no prefix of a value.
   record IsDecided (bytes : List ℕ) : Type 0 where
     whole : List ℕ
     later : List ℕ
@@ -76,7 +76,7 @@ module _ (limit : ℕ) where
         )
 
   module _ (limit_by : Request → Option ℕ) where
-    -- After the items `before` these bytes are items with this output, followed by a prefix of a
+    -- After the items `before`, the bytes are items with this output, followed by a prefix of a
     -- value.
     pub record IsHeld (before : List Item) (bytes : List ℕ) : Type 0 where
       pub items : List Item

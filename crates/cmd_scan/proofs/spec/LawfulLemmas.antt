@@ -1,5 +1,5 @@
--- The command is lawful: the input divides into stretches in one way, and each stretch has its
--- lines in one way.
+-- The command is lawful: the input divides into stretches in one way, and each stretch has one list
+-- of lines.
 use Rattle.std.proofs.Common.{◌≡◌, ◌⊎◌, inl, inr, ◌<◌, ℕ, List, [], ◌∷◌, ◌++◌, length, Option, Some, None, Ok, Err, refl, sym, ap, ◌∙◌, subst, append_assoc, length-append, arith}
 use Rattle.marshal_spec.specs.format.Prefix.{IsPrefix}
 use Rattle.cli_spec.specs.Outcome.{Request, outputs, exits}
@@ -15,7 +15,7 @@ use Rattle.cmd_scan.specs.spec.Searching.{IsFirstStretch, EndsWithPositions, Fin
 use Rattle.cmd_scan.proofs.spec.OutputLemmas.{positions_once, stretch_once}
 
 module _ (limit : ℕ) where
-  -- The stretch, and the bytes after its prefix of a value.
+  -- The bytes are the first stretch and the bytes after the stretch's prefix of a value.
   whole_is :
       (bytes : List ℕ) (item : Item) (more : List ℕ) → (h : IsFirstStretch limit bytes item more)
       → bytes ≡ (bytes_of h.parts ++ h.pending) ++ h.later
@@ -35,7 +35,7 @@ module _ (limit : ℕ) where
         h.more_is ∙ ((λ i. once.1 i ++ once.2 i) ∙ sym k.more_is),
       )
 
-  -- A stretch has at least one part, and so at least one byte.
+  -- A stretch has at least one part, so a stretch has at least one byte.
   pub stretch_some :
       (parts : List Part) (pending : List ℕ) → IsStretch limit parts pending
       → 0 < length (bytes_of parts)
@@ -44,7 +44,8 @@ module _ (limit : ℕ) where
       let some = part_some limit (AreRefused limit) part parts pending s.are in
       omega (arith, some, length-append (part_bytes part) (bytes_of parts))
 
-  -- If more bytes follow, then a stretch remains one.
+  -- If an item is the first stretch of some bytes, then it is the first stretch of the bytes with
+  -- more bytes after them.
   stretch_stays :
       (bytes : List ℕ) (item : Item) (more later : List ℕ) → IsFirstStretch limit bytes item more
       → IsFirstStretch limit (bytes ++ later) item (more ++ later)
@@ -65,7 +66,7 @@ module _ (limit : ℕ) where
   ends_once items bytes (exits exit) other h k = absurd h
 
   module _ (limit_by : Request → Option ℕ) where
-    -- After a prefix of a value the run continues.
+    -- If the remaining bytes are a prefix of a value, then the run continues.
     pub goes_on :
         (items : List Item) (rest : List ℕ) → IsPrefix limit rest
         → GoesOn (searching limit_by) limit items rest
@@ -114,7 +115,7 @@ module _ (limit_by : Request → Option ℕ) where
     at = λ limit found. lawful_at limit limit_by;
   }
 
-  -- The command requests no file.
+  -- The command fetches no file, so it fetches its files in turn.
   pub searching_turns : AreInTurns (searching limit_by)
   searching_turns = record {
     by_earlier = λ request files others turn name same h. h;

@@ -1,4 +1,4 @@
--- The output for items: the lines of their locations.
+-- The output for items: the lines of the positions in the items.
 use Rattle.std.proofs.Common.{◌≡◌, ℕ, ◌+◌, Bool, true, List, [], ◌∷◌, ◌++◌, length, Option, refl, sym, ap, ◌∙◌, subst, arith}
 use Rattle.std.specs.Prelude.{◌&&◌}
 use Rattle.cli_spec.specs.Outcome.{Request, Output, all_ok}
@@ -29,12 +29,12 @@ pub same_output :
 same_output output other write ok =
     ap (λ t. output_of t output.ok) write ∙ ap (λ w. output_of other.text w) ok
 
--- The lines of the locations of these parts, which follow the items.
+-- The output of the lines of positions in these parts, which follow the items.
 abbrev pub positions_output : List Item → List Part → Output
 positions_output items parts = output_of (lines_of (positions_of (bytes_in items) parts)) true
 
 module _ (limit : ℕ) where
-  -- Bytes have one list of locations, and so one output.
+  -- Bytes have one list of positions, so they have one output.
   pub positions_once :
       (items : List Item) (bytes : List ℕ) (output other : Output)
       → OutputsPositions limit items bytes output → OutputsPositions limit items bytes other → output ≡ other

@@ -1,4 +1,4 @@
--- The output for a whole input is the lines of its locations.
+-- The output for a whole input is the lines of the input's positions.
 use Rattle.std.proofs.Common.{◌≡◌, ℕ, ◌+◌, List, [], ◌∷◌, ◌++◌, length, Option, inl, inr, refl, sym, ap, ◌∙◌, subst, append_assoc, append-nil}
 use Rattle.cli_spec.specs.Outcome.{at_end, Request, ending_of, Output, Reply, outputs, exits, Replies, replies, texts_of}
 use Rattle.cmd_scan.specs.found.Parts.{Part, bytes_of, BeginNoValue, AreParts}
@@ -13,7 +13,7 @@ use Rattle.cmd_scan.specs.spec.Searching.{bytes_in, IsFirstStretch, OutputsPosit
 use Rattle.cmd_scan.proofs.spec.OutputLemmas.{bytes_in-snoc, same_bytes}
 
 module _ (limit : ℕ) where
-  -- No value begins at a byte that a stretch skips, whatever follows.
+  -- No value begins at a byte that a stretch skips, whatever bytes follow the stretch.
   stretch_parts :
       (bytes : List ℕ) (item : Item) (more : List ℕ) → (h : IsFirstStretch limit bytes item more)
       → AreParts limit (BeginNoValue limit) h.parts more
@@ -22,7 +22,7 @@ module _ (limit : ℕ) where
       (undecided limit h.parts (h.pending ++ h.later)
       (parts-after limit h.parts h.pending h.later h.stretch.are))
 
-  -- The output for an item is the lines of its stretch.
+  -- The output for an item is the lines of the item's stretch.
   stretch_text :
       (items : List Item) (bytes : List ℕ) (item : Item) (more : List ℕ) (output : Output)
       → (h : IsFirstStretch limit bytes item more) → OutputsStretch limit items item output
@@ -35,14 +35,15 @@ module _ (limit : ℕ) where
 
   module _ (limit_by : Request → Option ℕ) (last : List Part)
       (last_are : AreParts limit (BeginNoValue limit) last []) where
-    -- The parts of all items, and their lines.
+    -- The bytes are valid parts, and `write` is the lines of the parts' positions.
     pub record HasAll (before : List Item) (bytes write : List ℕ) : Type 0 where
       pub parts : List Part
       pub bytes_are : bytes ≡ bytes_of parts
       pub are : AreParts limit (BeginNoValue limit) parts []
       pub write_is : write ≡ lines_of (positions_of (bytes_in before) parts)
 
-    -- A stretch before the others.
+    -- If all bytes after the first stretch have parts and lines, then all bytes have parts and
+    -- lines.
     one_more :
         (before : List Item) (bytes : List ℕ) (item : Item) (more : List ℕ) (output : Output)
         (write : List ℕ)

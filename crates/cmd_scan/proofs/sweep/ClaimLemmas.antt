@@ -18,7 +18,7 @@ pub start_of :
 start_of bytes head start is e =
     e ∙ (ap (λ h. cond {A = ℕ} h.big 32 20) is ∙ start_length bytes)
 
--- If bytes begin with a value, then the value's header is at their start.
+-- If bytes begin with a value, then the bytes begin with the header of the value.
 module _ (limit : ℕ) (bytes value rest : List ℕ) (tree : Tree) (e : bytes ≡ value ++ rest)
     (s : EncodedUnder limit value tree) where
   split : bytes ≡ s.header ++ (concat s.chunks ++ rest)

@@ -56,16 +56,15 @@ position_is limit at size taken value f long = (
       ∙ s.encodes.states.w64)
 
 module _ (limit at : ℕ) (bytes old new : List ℕ) where
-  -- The next part is a value.
-  pub value_next :
-      (reader : Reader) (fed : Fed) (value : Value) → Feeds limit [] bytes reader fed
-      → Finishes limit (take fed.taken bytes) value
-      → new ≡ old ++ line_of (position_read at fed.taken value)
-      → (0 < fed.taken) × (rest : List ℕ) × Takes limit at bytes old new (AreRefused limit) fed.taken rest
-  value_next reader fed value f done text_is =
-      let n = fed.taken in
+  -- If a value is read from the first `n` bytes and its line is appended, then the next part is the
+  -- value.
+  pub value_part :
+      (n : ℕ) (value : Value) → n ≤ length bytes → Finishes limit (take n bytes) value
+      → new ≡ old ++ line_of (position_read at n value)
+      → (0 < n) × (rest : List ℕ) × Takes limit at bytes old new (AreRefused limit) n rest
+  value_part n value fits done text_is =
       let taken = take n bytes in
-      let size : length taken ≡ n = length-take-le n bytes f.within in
+      let size : length taken ≡ n = length-take-le n bytes fits in
       let (tree, encoded, same) = position_is limit at n taken value done size in
       let some = encoded_some limit taken tree encoded in
       let all : bytes_of (sighted taken tree ∷ []) ≡ taken = append-nil taken in (
@@ -84,7 +83,14 @@ module _ (limit at : ℕ) (bytes old new : List ℕ) where
         ),
       )
 
-  -- All bytes wait in the reader.
+  pub value_next :
+      (reader : Reader) (fed : Fed) (value : Value) → Feeds limit [] bytes reader fed
+      → Finishes limit (take fed.taken bytes) value
+      → new ≡ old ++ line_of (position_read at fed.taken value)
+      → (0 < fed.taken) × (rest : List ℕ) × Takes limit at bytes old new (AreRefused limit) fed.taken rest
+  value_next reader fed value f = value_part fed.taken value f.within
+
+  -- If the reader takes all bytes without a decision, then the bytes may still become a value.
   pub waits_next :
       (reader : Reader) (fed : Fed) → Feeds limit [] bytes reader fed
       → fed.done ≡ false → new ≡ old → AreWaiting limit at bytes old new reader bytes × (new ≡ old)
@@ -100,7 +106,7 @@ module _ (limit at : ℕ) (bytes old new : List ℕ) where
       take_whole : (n : ℕ) (xs : List ℕ) → n ≡ length xs → take n xs ≡ xs
       take_whole n xs e = take_all n xs (omega (arith, e))
 
-  -- One byte is skipped.
+  -- If the bytes are refused, then the next part is one skipped byte.
   one_passed :
       (bytes : List ℕ) → 0 < length bytes → AreRefused limit bytes → new ≡ old
       → (0 < 1) × (rest : List ℕ) × Takes limit at bytes old new (AreRefused limit) 1 rest

@@ -16,7 +16,7 @@ use Rattle.cmd_scan.specs.declared.sweep.next_part.NextPart.TheVariants.{Decided
 use Rattle.cmd_scan.specs.sweep.Swept.{WritesParts, Takes, IsNext, IsLast}
 
 module _ (limit at : ℕ) (bytes old : List ℕ) (None : List ℕ → Type 0) where
-  -- Initially nothing is consumed.
+  -- Initially, no byte is consumed.
   pub begins : Takes limit at bytes old old None 0 bytes
   begins =
       (record { parts = []; bytes_are = refl; are = tt; text_is = sym (append-nil old) }, refl)
@@ -29,7 +29,8 @@ module _ (limit at : ℕ) (bytes old : List ℕ) (None : List ℕ → Type 0) wh
       pub within : n + length rest ≡ length bytes
       within = omega (arith, t.1, ap length t.0.bytes_are, length-append (bytes_of t.0.parts) rest)
 
-      -- More parts are consumed after them.
+      -- If parts are consumed, and then more parts of the remaining bytes are consumed, then all
+      -- these parts are consumed.
       pub one_more :
           (new : List ℕ) (m : ℕ) (more : List ℕ) → Takes limit (at + n) rest mid new None m more
           → Takes limit at bytes old new None (n + m) more
@@ -78,7 +79,7 @@ at_end limit at bytes old new n rest (p, size) = (
   size,
 )
 
--- If no value begins, then the first byte is skipped.
+-- If no value begins at the first byte, then the first byte is skipped.
 pub none_passed :
     (limit at : ℕ) (bytes old new : List ℕ) → 0 < length bytes → BeginNoValue limit bytes
     → new ≡ old
@@ -98,7 +99,8 @@ none_passed limit at (b ∷ rest) old new some none same = (
   ),
 )
 
--- Hence the next part is a part if no more bytes follow.
+-- If no more bytes follow, then the next part is determined: a determined part, or one skipped byte
+-- of bytes that might still become a value.
 pub last_of :
     (E : Type 0) (limit at : ℕ) (bytes old new : List ℕ) (next : NextPart) (n : ℕ) → 0 < length bytes
     → IsNext limit at bytes old new {E = E} (Ok next) → IsLast next n
@@ -115,7 +117,7 @@ last_of E limit at bytes old new (Waits reader) n bytes_some (waits, same) is =
 
 module _ (limit at : ℕ) (bytes old mid new : List ℕ) (n : ℕ) (slice : List ℕ)
     (slice_is : slice ≡ drop n bytes) where
-  -- Parts of a slice are parts of the whole.
+  -- If parts of a slice of the remaining bytes are consumed, then parts of all bytes are consumed.
   slice_more :
       (None : List ℕ → Type 0) (rest : List ℕ) → Takes limit at bytes old mid None n rest → (m : ℕ)
       → (more : List ℕ) × Takes limit (at + n) slice mid new None m more
@@ -133,14 +135,15 @@ module _ (limit at : ℕ) (bytes old mid new : List ℕ) (n : ℕ) (slice : List
       → (more : List ℕ) × Takes limit at bytes old new (AreRefused limit) (n + m) more
   decided_more = slice_more (AreRefused limit)
 
-  -- The same if no more bytes follow.
+  -- If no more bytes follow, and parts of a slice of the remaining bytes are consumed, then parts
+  -- of all bytes are consumed.
   pub ended_more :
       (rest : List ℕ) → Takes limit at bytes old mid (BeginNoValue limit) n rest → (m : ℕ)
       → (more : List ℕ) × Takes limit (at + n) slice mid new (BeginNoValue limit) m more
       → (more : List ℕ) × Takes limit at bytes old new (BeginNoValue limit) (n + m) more
   ended_more = slice_more (BeginNoValue limit)
 
-  -- The rest waits in the reader.
+  -- If the reader has taken a slice of the remaining bytes, then it has taken the remaining bytes.
   pub rest_waits :
       (rest : List ℕ) → Takes limit at bytes old mid (AreRefused limit) n rest → (reader : Reader)
       → IsPrefix limit slice → Leads limit slice reader → new ≡ mid
@@ -153,14 +156,14 @@ module _ (limit at : ℕ) (bytes old mid new : List ℕ) (n : ℕ) (slice : List
         (subst (IsPrefix limit) is prefix, subst (λ b. Leads limit b reader) is leads),
       )
 
--- No byte remains.
+-- If `n` bytes are consumed and the bytes are at most `n`, then no byte remains.
 none_left :
     (limit at : ℕ) (bytes old new : List ℕ) (None : List ℕ → Type 0) (n : ℕ) (rest : List ℕ)
     → Takes limit at bytes old new None n rest → length bytes ≤ n → rest ≡ []
 none_left limit at bytes old new None n rest t all =
     nil_from_length rest (omega (arith, within limit at bytes old None new n rest t, all))
 
--- An empty rest waits in the reader.
+-- If all bytes are consumed, then a reader that has taken no byte has taken the remaining bytes.
 pub nothing_waits :
     (limit at : ℕ) (bytes old new : List ℕ) (n : ℕ) (rest : List ℕ) (reader : Reader)
     → Takes limit at bytes old new (AreRefused limit) n rest → length bytes ≤ n
@@ -177,7 +180,7 @@ nothing_waits limit at bytes old new n rest reader t all leads =
       ),
     )
 
--- All bytes are parts.
+-- If the parts have as many bytes as there are, then all bytes are parts.
 pub all_parts :
     (limit at : ℕ) (bytes old new : List ℕ) (n : ℕ) (rest : List ℕ)
     → Takes limit at bytes old new (BeginNoValue limit) n rest → length bytes ≤ n

@@ -5,10 +5,10 @@ use Rattle.base_data.specs.declared.model.refusal.ReadRefusal.{ReadRefusal}
 use Rattle.base_data.specs.declared.model.refusal.ReadRefusal.TheVariants as refusals
 use Rattle.marshal_spec.specs.format.Prefix.{IsPrefix}
 use Rattle.marshal_read.specs.declared.reader.Reader.{Reader}
-use Rattle.marshal_read.specs.Reader.{IsReader, Leads}
+use Rattle.marshal_read.specs.Reader.{IsReader, IsDone, Leads}
 use Rattle.cmd_scan.specs.declared.command.last.TakenBytes.{TakenBytes}
 
--- The last of the bytes decides what they begin with.
+-- The last of the bytes decides what the bytes begin with.
 pub record IsDecided (limit : ℕ) (bytes : List ℕ) : Type 0 where
   pub none : IsPrefix limit bytes → ⊥
   pub prefix : List ℕ
@@ -16,26 +16,28 @@ pub record IsDecided (limit : ℕ) (bytes : List ℕ) : Type 0 where
   pub bytes_are : bytes ≡ prefix ++ last ∷ []
   pub before : IsPrefix limit prefix
 
--- A refusal other than out of memory decides.
+-- The refusal is not that memory ran out, so the bytes are decided and `goes_on` is false.
 abbrev pub IsRefusal : ReadRefusal → Bool → Type 0
 IsRefusal refusal goes_on = (goes_on ≡ false) × (refusal ≢ refusals.Memory)
 
--- The bytes are still a prefix of a value, and the reader has taken them. Or the byte decides. Or
--- memory ran out.
+-- The result of taking one byte. If it is true, the bytes are still a prefix of a value, and the
+-- reader has taken them. If it is false, the byte decides what the bytes begin with. If it is an
+-- error, memory ran out.
 abbrev pub TakesByte : {E : Type 0} → ℕ → List ℕ → List ℕ → Reader → Result Bool E → Type 0
 TakesByte limit taken byte new (Ok true) =
     IsReader new × Leads limit (taken ++ byte) new × IsPrefix limit (taken ++ byte)
 TakesByte limit taken byte new (Ok false) = IsDecided limit (taken ++ byte)
 TakesByte limit taken byte new (Err e) = Unit {0}
 
--- This many bytes of the chunk decide.
+-- The first `n` bytes of the chunk decide what the bytes begin with, or memory ran out.
 abbrev pub FindsLast : {E : Type 0} → ℕ → List ℕ → List ℕ → Result ℕ E → Type 0
 FindsLast limit held chunk (Ok n) =
     (0 < n) × (n ≤ length chunk) × IsDecided limit (held ++ take n chunk)
 FindsLast limit held chunk (Err e) = Unit {0}
 
--- Some bytes are taken after the held ones. Either the last of them decides what all begin with, or
--- they are still a prefix of a value and the reader has taken them.
+-- Some bytes of the chunk are taken after the held bytes. If `t.decided` is true, the last taken
+-- byte decides what all bytes begin with. If `t.decided` is false, all bytes are still a prefix of
+-- a value, and the reader has taken them.
 pub record TakesBytes (limit : ℕ) (held chunk : List ℕ) (new : Reader)
     (t : TakenBytes) : Type 0 where
   pub some : 0 < t.bytes
@@ -44,7 +46,15 @@ pub record TakesBytes (limit : ℕ) (held chunk : List ℕ) (new : Reader)
       × Leads limit (held ++ take t.bytes chunk) new
   pub last : t.decided ≡ true → IsDecided limit (held ++ take t.bytes chunk)
 
--- The bytes are taken, or memory ran out.
+-- Some bytes of the chunk are taken, or memory ran out.
 abbrev pub ReadsSome : {E : Type 0} → ℕ → List ℕ → List ℕ → Reader → Result TakenBytes E → Type 0
 ReadsSome limit held chunk new (Ok t) = TakesBytes limit held chunk new t
 ReadsSome limit held chunk new (Err e) = Unit {0}
+
+-- The reader holds a complete value, which these bytes encode.
+abbrev pub IsComplete : ℕ → List ℕ → Reader → Type 0
+IsComplete limit bytes reader = IsReader reader × IsDone reader × Leads limit bytes reader
+
+-- If these bytes are one value, then the reader holds the value.
+abbrev pub HasValue : ℕ → List ℕ → Reader → TakenBytes → Type 0
+HasValue limit bytes reader t = t.whole ≡ true → IsComplete limit bytes reader

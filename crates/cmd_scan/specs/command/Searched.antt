@@ -17,8 +17,8 @@ use Rattle.cmd_scan.specs.declared.command.last.TakenBytes.{TakenBytes}
 use Rattle.cmd_scan.specs.command.Last.{IsDecided}
 
 module _ (limit_by : Request → Option ℕ) (limit : ℕ) (held : List ℕ) where
-  -- The stretches in these bytes were taken, and this is their output. The held bytes are a prefix
-  -- of a value, which the reader has taken, and `at` bytes come before them.
+  -- The stretches in these bytes were taken, and `output` is their output. The held bytes are a
+  -- prefix of a value, which the reader has taken. `at` bytes come before the held bytes.
   pub record HasSearched (reader : Reader) (at : ℕ) (bytes : List ℕ) (output : List Output) : Type 0
     where
       pub items : List Item
@@ -27,14 +27,16 @@ module _ (limit_by : Request → Option ℕ) (limit : ℕ) (held : List ℕ) whe
       pub leads : Leads limit held reader
       pub at_is : at ≡ bytes_in items
 
-  -- The same, if the last of the held bytes decides.
+  -- The stretches in these bytes were taken, and `output` is their output. The last of the held
+  -- bytes decides what the held bytes begin with. `at` bytes come before the held bytes.
   pub record HasStretch (at : ℕ) (bytes : List ℕ) (output : List Output) : Type 0 where
     pub items : List Item
     pub first : OutputsFirst (searching limit_by) limit bytes items output held
     pub decided : IsDecided limit held
     pub at_is : at ≡ bytes_in items
 
--- Some of the buffered bytes are taken. Afterwards a stretch is held, or a prefix of a value.
+-- Some of the buffered bytes are taken. Afterwards, the held bytes are a stretch, or a prefix of a
+-- value.
 abbrev pub HasTaken : (Request → Option ℕ) → ℕ → List ℕ → Reader → ℕ → List ℕ → List ℕ → List Output
     → TakenBytes → Type 0
 HasTaken limit_by limit held reader at buffered bytes output t =
@@ -43,15 +45,17 @@ HasTaken limit_by limit held reader at buffered bytes output t =
     → HasSearched limit_by limit held reader at (bytes ++ take t.bytes buffered) output)
     × (t.decided ≡ true → HasStretch limit_by limit held at (bytes ++ take t.bytes buffered) output)
 
--- The bytes are taken, or memory ran out.
+-- Some of the buffered bytes are taken, or memory ran out.
 abbrev pub TakesSome : {E : Type 0} → (Request → Option ℕ) → ℕ → List ℕ → Reader → ℕ → List ℕ
     → List ℕ → List Output → Result TakenBytes E → Type 0
 TakesSome limit_by limit held reader at buffered bytes output (Ok t) =
     HasTaken limit_by limit held reader at buffered bytes output t
 TakesSome limit_by limit held reader at buffered bytes output (Err e) = Unit {0}
 
--- The output for the stretch is written, and a prefix of a value is held after it. Or memory ran
--- out and nothing is written. Or writing the output fails.
+-- The effect of writing the stretch. If the result is `Ok`, the output for the stretch is written,
+-- and a prefix of a value is held after the stretch. If the result is an exit reason, memory ran
+-- out and nothing is written. If the result is a failed write, only a part of the output is
+-- written.
 abbrev pub WritesNext : {U : Type 0} → (Request → Option ℕ) → ℕ → List ℕ → Reader → ℕ → List ℕ
     → List Output → Change ByteState → Result U Error → Type 0
 WritesNext limit_by limit held reader at bytes output out (Ok unit) =

@@ -24,8 +24,8 @@ IsPosition limit input position =
     × (position
     ≡ position_of position.offset (take position.size (drop position.offset input)) tree)
 
--- From offset `from`, the positions are positions of values, and none begins before the end of the
--- previous one.
+-- From offset `from` on, the positions are positions of values, and no position begins before the
+-- end of the previous one.
 abbrev pub AreInOrder : ℕ → List ℕ → ℕ → List Position → Type 0
 AreInOrder limit input from [] = Unit {0}
 AreInOrder limit input from (position ∷ positions) =
@@ -39,7 +39,8 @@ IsInside offset (position ∷ positions) =
     ((position.offset ≤ offset) × (offset < position.offset + position.size))
     ⊎ IsInside offset positions
 
--- Each position is the position of a value, and each value begins inside one of the positions.
+-- Each position is the position of a value, positions do not overlap, and each encoded value begins
+-- inside one of the positions.
 abbrev pub ArePositionsOfAll : Type 0
 ArePositionsOfAll =
     (limit : ℕ) (input : List ℕ) (positions : List Position) → ArePositions limit input positions

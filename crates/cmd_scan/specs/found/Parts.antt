@@ -28,8 +28,8 @@ abbrev pub AreRefused : ℕ → List ℕ → Type 0
 AreRefused limit bytes =
     (n : ℕ) × (refusal : ReadRefusal) × (n ≤ length bytes) × IsRefused limit (take n bytes) refusal
 
--- A valid sequence of parts before the bytes `rest`. The bytes of a value encode its tree. If a
--- byte is skipped, then the condition `None` holds for the bytes from there.
+-- The parts are a valid sequence before the bytes `rest`. The bytes of a value encode its tree. If
+-- a byte is skipped, then the condition `None` holds for the bytes from the skipped byte on.
 abbrev pub AreParts : ℕ → (List ℕ → Type 0) → List Part → List ℕ → Type 0
 AreParts limit None [] rest = Unit {0}
 AreParts limit None (passed byte ∷ parts) rest =
@@ -37,9 +37,9 @@ AreParts limit None (passed byte ∷ parts) rest =
 AreParts limit None (sighted bytes tree ∷ parts) rest =
     EncodedUnder limit bytes tree × AreParts limit None parts rest
 
--- The parts and the prefix after them are a shortest sequence of bytes that determines its
--- beginning. Without the last byte, the bytes may still become a value; with it, they no longer
--- may. The parts are determined without any later byte.
+-- The parts and the prefix `pending` after them are a shortest sequence of bytes that determines
+-- its beginning. Without its last byte, the sequence may still become a value; with the last byte,
+-- it no longer may. The parts are determined without any later byte.
 pub record IsStretch (limit : ℕ) (parts : List Part) (pending : List ℕ) : Type 0 where
   pub none : IsPrefix limit (bytes_of parts ++ pending) → ⊥
   pub prefix : List ℕ

@@ -33,8 +33,8 @@ positions_of offset (sighted bytes tree ∷ parts) =
 
 -- ---- the positions of an input
 
--- The positions of an input, from left to right. If a value is encoded at an offset, it has a
--- position, and the list continues after it. A byte at which no value begins is skipped.
+-- The positions of an input, from left to right. If a value is encoded at an offset, the value has
+-- a position, and the list continues after the value. A byte at which no value begins is skipped.
 abbrev pub ArePositions : ℕ → List ℕ → List Position → Type 0
 ArePositions limit input positions =
     (parts : List Part) × (input ≡ bytes_of parts)

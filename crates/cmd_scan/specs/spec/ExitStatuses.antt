@@ -1,10 +1,10 @@
 -- Exit status specification of the command `scan`:
 --
--- - 0: The locations up to the end of the input are reported, also if it contains no value.
+-- - 0: The positions up to the end of the input are reported, also if the input contains no value.
 -- - 2: The arguments are invalid.
 --
 -- Neither the input nor a file causes any other status. The meanings of 6, 7, 9 and 10 for the
--- input, for out and for memory are the same for all commands; run_spec::runs defines them.
+-- input, for out and for memory do not depend on the command; run_spec::runs defines them.
 use Rattle.std.specs.Prelude.{ℕ, ◌≡◌, ◌≢◌}
 use Rattle.cli_spec.specs.declared.status.Status.TheVariants.{AllOk, No, Types, Value, Script}
 use Rattle.cli_spec.specs.declared.status.Status.TheVariants.{OpenFault, Compat, Certificate}

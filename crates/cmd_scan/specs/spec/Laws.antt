@@ -13,14 +13,14 @@ module _ (limit_by : Request → Option ℕ) where
   IsIdleElsewhere =
       (request : Request) → limit_by request ≡ None → IsIdleAt (searching limit_by) request
 
-  -- The output for a whole input is the lines of the locations of its values.
+  -- The output for a whole input is the lines of the positions of the input's values.
   abbrev pub ReportsPositions : Type 0
   ReportsPositions = (limit : ℕ) (input : List ℕ) (all : Replies) → AreBytes input
       → Answers (searching limit_by) limit (whole input) all
       → (positions : List Position) × ArePositions limit input positions
       × ((ending_of all).out ≡ lines_of positions)
 
-  -- The command is disjoint from all commands that do nothing for searches.
+  -- The command and a command set that does nothing for searches are disjoint.
   abbrev pub StandsDisjointFrom : {A : Type 0} → Commands A → Type 0
   StandsDisjointFrom c =
       ((request : Request) (limit : ℕ) → limit_by request ≡ Some limit → IsIdleAt c request)

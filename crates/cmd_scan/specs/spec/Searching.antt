@@ -1,7 +1,7 @@
--- The command `scan` in the general form. An item is the bytes of several parts, and it ends as
--- soon as the following bytes determine these parts. The output for an item is the lines of the
--- locations in it. The final output is the lines for the remaining bytes, where a truncated value
--- is no value.
+-- The command `scan` in the general form of `Commands`. An item is the bytes of several parts. An
+-- item ends as soon as the bytes after it determine its parts. The output for an item is the lines
+-- of the positions in the item. The final output is the lines for the remaining bytes, in which a
+-- truncated value is no value.
 use Rattle.std.specs.Prelude.{ℕ, ◌+◌, ◌≡◌, true, List, [], ◌∷◌, ◌++◌, length, Option, Some, Result}
 use Rattle.std.specs.Prelude.{Ok}
 use Rattle.cli_spec.specs.Outcome.{Request, Output, Reply, outputs, exits}
@@ -17,8 +17,8 @@ bytes_in (value tree ∷ items) = bytes_in items
 bytes_in (text bytes ∷ items) = length bytes + bytes_in items
 
 module _ (limit : ℕ) where
-  -- The item consists of the parts of the first stretch. The prefix of a value after these parts
-  -- remains, with the bytes that follow it.
+  -- The item consists of the parts of the first stretch. The bytes after the item are the stretch's
+  -- prefix of a value and the bytes that follow the stretch.
   pub record IsFirstStretch (bytes : List ℕ) (item : Item) (more : List ℕ) : Type 0 where
     pub parts : List Part
     pub pending : List ℕ
@@ -28,7 +28,7 @@ module _ (limit : ℕ) where
     pub bytes_are : bytes ≡ bytes_of parts ++ more
     pub stretch : IsStretch limit parts pending
 
-  -- The output is the lines of the locations in these bytes, which follow the items.
+  -- The output is the lines of the positions in these bytes, which follow the items.
   pub record OutputsPositions (items : List Item) (bytes : List ℕ) (output : Output) : Type 0 where
     pub parts : List Part
     pub bytes_are : bytes ≡ bytes_of parts
@@ -40,7 +40,8 @@ module _ (limit : ℕ) where
   OutputsStretch items item output =
       (bytes : List ℕ) × (item ≡ text bytes) × OutputsPositions items bytes output
 
-  -- The run never ends within its input.
+  -- The reply at the end of the input outputs the lines of the positions in the remaining bytes.
+  -- The run never ends before the end of its input.
   abbrev pub EndsWithPositions : List Item → List ℕ → Reply → Type 0
   EndsWithPositions items bytes (outputs output) = OutputsPositions items bytes output
   EndsWithPositions items bytes (exits exit) = ⊥

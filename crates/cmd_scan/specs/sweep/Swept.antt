@@ -1,5 +1,5 @@
--- The processing of buffered bytes: parts are consumed, the lines of values are appended, and bytes
--- that may still become a value wait in the reader.
+-- The processing of buffered bytes: parts are consumed, the lines of values are appended, and the
+-- reader holds bytes that may still become a value.
 use Rattle.std.specs.Prelude.{ℕ, ◌<◌, ◌≡◌, ◌≢◌, List, [], ◌++◌, length, Result, Ok, Err}
 use Rattle.base_data.specs.declared.model.refusal.ReadRefusal.{ReadRefusal}
 use Rattle.base_data.specs.declared.model.refusal.ReadRefusal.TheVariants as refusals
@@ -16,7 +16,7 @@ use Rattle.cmd_scan.specs.declared.sweep.next_part.NextPart.TheVariants as nexts
 use Rattle.cmd_scan.specs.declared.sweep.next_part.NextPart.TheVariants.{Decided, Waits}
 use Rattle.cmd_scan.specs.declared.sweep.parts.Swept.{Swept}
 
--- The position of a value that was read from `size` bytes.
+-- The position of a value that was read from `size` bytes at offset `at`.
 abbrev pub position_read : ℕ → ℕ → Value → Position
 position_read at size value = record {
   offset = at;
@@ -27,7 +27,7 @@ position_read at size value = record {
 }
 
 -- The bytes consist of parts followed by `rest`, and the lines of the parts' positions were
--- appended. `at` is the offset of the bytes.
+-- appended. `at` is the offset of the bytes in the input.
 pub record WritesParts (limit : ℕ) (None : List ℕ → Type 0) (at : ℕ) (bytes rest old new : List ℕ)
     : Type 0 where
   pub parts : List Part
@@ -46,7 +46,8 @@ IsLast (Decided n) last = last ≡ n
 IsLast (Waits reader) last = last ≡ 1
 
 module _ (limit at : ℕ) (bytes old new : List ℕ) where
-  -- The parts have `n` bytes.
+  -- The bytes begin with parts of `n` bytes, followed by `rest`, and the lines of the parts were
+  -- appended.
   abbrev pub Takes : (List ℕ → Type 0) → ℕ → List ℕ → Type 0
   Takes None n rest =
       (writes : WritesParts limit None at bytes rest old new) × (n ≡ length (bytes_of writes.parts))
@@ -55,18 +56,19 @@ module _ (limit at : ℕ) (bytes old new : List ℕ) where
   abbrev pub AreWaiting : Reader → List ℕ → Type 0
   AreWaiting reader prefix = IsPrefix limit prefix × Leads limit prefix reader
 
-  -- Either determined parts are consumed, or all bytes wait in the reader, or memory ran out.
+  -- Either determined parts are consumed, or the reader has taken all bytes, or memory ran out.
   abbrev pub IsNext : {E : Type 0} → Result NextPart E → Type 0
   IsNext (Ok (Decided n)) = (0 < n) × (rest : List ℕ) × Takes (AreRefused limit) n rest
   IsNext (Ok (Waits reader)) = AreWaiting reader bytes × (new ≡ old)
   IsNext (Err e) = Unit {0}
 
-  -- Either some of the bytes are parts, if no more bytes follow, or memory ran out.
+  -- Either some of the bytes are parts if no more bytes follow, or memory ran out.
   abbrev pub IsLastPart : {E : Type 0} → Result ℕ E → Type 0
   IsLastPart (Ok n) = (0 < n) × (rest : List ℕ) × Takes (BeginNoValue limit) n rest
   IsLastPart (Err e) = Unit {0}
 
-  -- Either determined parts are consumed and the rest waits in the reader, or memory ran out.
+  -- Either determined parts are consumed and the reader has taken the remaining bytes, or memory
+  -- ran out.
   abbrev pub Sweeps : {E : Type 0} → Result Swept E → Type 0
   Sweeps (Ok swept) =
       (rest : List ℕ) × Takes (AreRefused limit) swept.decided rest × AreWaiting swept.reader rest

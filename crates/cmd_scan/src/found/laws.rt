@@ -2,13 +2,13 @@
 
 ghost use Rattle.cmd_scan.specs.found.Laws.{HasOneList, ArePositionsOfAll};
 
-/// States that each input has exactly one list of positions under each limit.
+/// Proves that each input has exactly one list of positions under each limit.
 pub fn one_list()
     ensures { HasOneList }
 {}
 
-/// States that a value is encoded at each position of the list, with the stated length, and that
-/// positions do not overlap. A value that is encoded at any other offset begins inside one of the
+/// Proves that a value is encoded at each position of the list, with the stated length, and that
+/// positions do not overlap. A value that is encoded at another offset begins inside one of the
 /// positions.
 pub fn positions_of_all()
     ensures { ArePositionsOfAll }

@@ -12,8 +12,8 @@ fn length_of(head: Head) -> u64
     if head.big { 32 } else { 20 }
 }
 
-/// Returns true if the bytes begin with a header that states more data than the bytes contain. In
-/// this case the bytes do not begin with a complete value.
+/// Returns true if the bytes begin with a header that states more data than the bytes contain. If
+/// the result is true, then the bytes do not begin with a complete value.
 pub fn claims_more(bytes: &[u8]) -> bool
     ensures { IsTrue result → (limit : ℕ) → BeginNoValue limit bytes.now }
 {

@@ -5,8 +5,9 @@ ghost use Rattle.base_data.specs.model.Graph.{IsValue};
 ghost use Rattle.cmd_scan.specs.found.Positions.{line_of};
 ghost use Rattle.cmd_scan.specs.sweep.Swept.{position_read};
 
-use crate::sweep::kind::{write, write_kind, write_number};
+use crate::sweep::kind::write_kind;
 use base_data::model::Memory;
+use base_data::text::{write, write_number};
 use marshal_read::Value;
 
 // Appends a number and a space.

@@ -1,4 +1,4 @@
-//! The next part at the start of some bytes.
+//! Finds the next part at the start of some bytes.
 
 ghost use Rattle.std.specs.Prelude.{◌<◌, length};
 ghost use Rattle.cmd_scan.specs.sweep.Swept.{PassesOne, IsNext, IsLastPart};
@@ -10,8 +10,8 @@ use base_data::model::refusal::ReadRefusal;
 use marshal_read::Reader;
 use std::alloc::Global;
 
-/// The length of the next part in bytes, or the reader that has consumed all bytes because they may
-/// still become a value.
+/// The length of the next part in bytes; or, if all bytes may still become a value, the reader that
+/// has taken the bytes.
 #[derive(Drop)]
 pub enum NextPart {
     Decided(usize),
@@ -22,7 +22,7 @@ impl NextPart {
     ghost use Rattle.cmd_scan.specs.sweep.Swept.{IsLast};
 
     // Returns the length of the next part if no more bytes follow. If the bytes may still become a
-    // value, one byte is skipped.
+    // value, the next part is one skipped byte.
     fn last(self) -> usize
         ensures { IsLast self result }
     {
@@ -33,8 +33,8 @@ impl NextPart {
     }
 }
 
-// Skips one byte if the bytes are refused as a value. Returns an error if the refusal is out of
-// memory.
+// Skips one byte if the bytes are refused as a value. Fails with `Memory` if the refusal is that
+// memory ran out.
 fn pass(refusal: ReadRefusal) -> Result<NextPart, Memory>
     ensures { PassesOne refusal result }
 {
@@ -44,7 +44,8 @@ fn pass(refusal: ReadRefusal) -> Result<NextPart, Memory>
     }
 }
 
-/// Returns the next part, as far as the bytes determine it. If it is a value, appends its line.
+/// Returns the next part, as far as the bytes determine it. If the next part is a value, appends
+/// the line of the value.
 pub fn next_part(
     alloc: Global,
     limit: u64,
@@ -69,8 +70,8 @@ pub fn next_part(
     }
 }
 
-/// Returns how many bytes form the next part, if no more bytes follow. If a value is truncated, its
-/// first byte is skipped.
+/// Returns the length in bytes of the next part, if no more bytes follow. If a value is truncated,
+/// the next part is the value's first byte, which is skipped.
 pub fn last_part(
     alloc: Global,
     limit: u64,

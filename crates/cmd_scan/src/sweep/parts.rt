@@ -9,7 +9,7 @@ use base_data::model::bytes::skip;
 use marshal_read::Reader;
 use std::alloc::Global;
 
-/// The length of the parts in bytes, and the reader that has consumed the other bytes because they
+/// The length of the parts in bytes, and the reader that has taken the bytes after the parts, which
 /// may still become a value.
 #[derive(Drop)]
 pub struct Swept {
@@ -17,8 +17,8 @@ pub struct Swept {
     pub reader: Reader,
 }
 
-/// Processes part after part, as far as the bytes determine them, if more bytes may follow. Appends
-/// the lines of values. `at` is the offset of the bytes in the input.
+/// Processes part after part, as far as the bytes determine the parts, if more bytes may follow.
+/// Appends the lines of values. `at` is the offset of the bytes in the input.
 pub fn sweep(
     alloc: Global,
     limit: u64,

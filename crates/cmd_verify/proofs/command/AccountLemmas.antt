@@ -1,4 +1,4 @@
--- Proves `Account` for a run of `verify`, from the contents of its files.
+-- The contents of the files determine `Account` for a run of `verify`.
 use Rattle.std.proofs.Common.{◌≡◌, ◌⊎◌, ◌<◌, ℕ, zero, suc, Bool, List, Ok, Err, inl, inr, refl, subst, arith}
 use Rattle.cli_spec.specs.declared.status.Status.{Status}
 use Rattle.cli_spec.specs.declared.read_options.ReadOptions.{ReadOptions}
@@ -23,19 +23,20 @@ use Rattle.cmd_verify.specs.command.Files.{GivesCertificate}
 use Rattle.cmd_verify.specs.command.Reading.{on_certificates_after, certified_after}
 use Rattle.opt_skip_only.specs.skip_spec.Skipping.{Passed}
 
--- The results of the first and the second turn.
+-- The results of fetching: `first` in the first turn, and `second` in each later turn.
 abbrev two_found : Found → Found → ℕ → List ℕ → Found
 two_found first second zero name = first
 two_found first second (suc turn) name = second
 
--- FILE and CERT are fetched in two turns.
+-- The command requests files only in the first two turns.
 pub wanted_soon : WantsInTurns 2 on_certificates_after
 wanted_soon request files turn name (asked, is, inl (first, e)) = omega (arith, first)
 wanted_soon request files turn name (asked, is, inr (second, e, type, reads)) =
     omega (arith, second)
 
 module _ (arguments : List (List ℕ)) (found : Fetches) where
-  -- Two turns, one after the other.
+  -- If one file is fetched in the first turn and one in the second turn, then the two fetches are
+  -- the fetches of the command.
   new_fetches :
       (before between after : FilesState)
       → FetchesIn on_certificates_after arguments (change before between) found 0
@@ -60,7 +61,7 @@ module _ (arguments : List (List ℕ)) (found : Fetches) where
     each (suc zero) less = second
     each (suc (suc n)) less = absurd (omega (arith, less))
 
--- FILE or TYPE cannot be read.
+-- Suppose FILE was fetched, and FILE or TYPE ends the run.
 module _ (arguments : List (List ℕ)) (file type certificate : List ℕ) (lines : Bool)
     (reading : ReadOptions) (asks : Asks arguments (own (verify file type certificate lines reading))) (files : Change FilesState)
     (found : Found) (fetched : Fetched files file found) where
@@ -102,7 +103,7 @@ module _ (arguments : List (List ℕ)) (file type certificate : List ℕ) (lines
       exit_account on_certificates_after arguments file_found input out files fetches err status exit
       (gives_exit exit gives) r
 
--- FILE and TYPE are read, and CERT is next.
+-- Suppose FILE and TYPE are valid, and CERT was fetched.
 module _ (arguments : List (List ℕ)) (r : Prepared) (certificate : List ℕ) (reading : ReadOptions)
     (a b c : FilesState) (asks : AsksToVerify arguments r certificate reading (change a b))
     (found : Found) (fetched : Fetched (change b c) certificate found) where
@@ -151,7 +152,8 @@ module _ (arguments : List (List ℕ)) (r : Prepared) (certificate : List ℕ) (
       )
   exit_given exit (inr memory) = inr memory
 
-  -- CERT gives no entries.
+  -- If CERT gives an exit reason instead of entries, and the exit reason is reported, then the run
+  -- has an account.
   pub no_sections_account :
       (exit : Exit) → GivesCertificate certificate found (Err exit) → (input out : ByteState)
       (err : Change ByteState) (status : Status) → Reports exit err status
@@ -161,7 +163,7 @@ module _ (arguments : List (List ℕ)) (r : Prepared) (certificate : List ℕ) (
       exit_account on_certificates_after arguments both_found input out (change a c) both_fetched err status
       exit (exit_given exit gives) reports
 
-  -- The values are verified.
+  -- If CERT gives entries, and the values are verified, then the run has an account.
   pub sections_account :
       (sections : List Section) → GivesCertificate certificate found (Ok sections)
       → (input out err : Change ByteState) (status : Status)
@@ -174,7 +176,7 @@ module _ (arguments : List (List ℕ)) (r : Prepared) (certificate : List ℕ) (
         (refl, (asked_of, refl, (Ok (type_over r), asks.gives.0, (Ok sections, gives, refl)))),
       )
 
--- Equal parameters have the same `Account`.
+-- If the skipped bytes and the tasks are equal, then `Account` holds for both tasks.
 pub account_same :
     (over other : Passed) (a b : Verification TypeOver Section) (input out err : Change ByteState)
     (status : Status) → over ≡ other → a ≡ b

@@ -1,4 +1,4 @@
--- The result of reading CERT.
+-- Lemmas about the result of reading CERT.
 use Rattle.std.proofs.Common.{◌≡◌, ℕ, List, Some, Ok, Err, inl, inr, refl, ap}
 use Rattle.cert_format.specs.declared.read.CertFault.{CertFault}
 use Rattle.cert_format.specs.declared.read.CertFault.TheVariants.{Syntax, Memory}

@@ -1,4 +1,4 @@
--- The result of an entry by the requested table is its result at the type.
+-- The verifier's result for an entry by the requested table is the result of the entry at the type.
 use Rattle.std.proofs.Common.{ℕ, ◌≡◌, true, false, List, ◌++◌, Some, Result, Ok, Err, inl, inr, refl, sym, subst}
 use Rattle.std.specs.Prelude.{codes, slice_get, IfOk}
 use Rattle.base_data.specs.declared.model.value.Val.{Val}
@@ -32,7 +32,7 @@ use Rattle.cmd_verify.specs.declared.command.judge.VerifiedValue.TheVariants.{Li
 use Rattle.cmd_verify.specs.command.Shown.{why_text, Answers}
 use Rattle.cmd_verify.specs.command.Judged.{Judges, JudgesAt}
 
--- If an entry is accepted, then it states the fault that it shows.
+-- If an entry is accepted with a fault, then the entry states the fault.
 stated_fault :
     (table : Table) (graph : List Obj) (root : Val) (section : Section) (fault : Fault)
     → IsVerified table graph root section (No fault)
@@ -47,7 +47,7 @@ stated_fault table graph root (sections.Conflict one two) fault (inl (accepted, 
     subst (IsFault (table_shapes table) graph root 0) (sym same) accepted
 
 module _ (r : Prepared) (ready : IsReady r) (graph : List Obj) (root : Val) (section : Section) where
-  -- By the table that was built.
+  -- The verifier's result by the table that was built is the result at the type.
   answer_at :
       (verified : Verified) → IsVerified (table_of r.table) graph root section verified
       → Answers (type_over r) section graph root verified
@@ -65,7 +65,7 @@ module _ (r : Prepared) (ready : IsReady r) (graph : List Obj) (root : Val) (sec
   stated fault is = stated_fault (table_of r.table) graph root section fault is
 
   module _ (root_first : TheRootIsFirst) where
-    -- The output is `yes`.
+    -- If the verifier returns `Yes`, then the output is `yes`.
     pub judged_yes :
         IsLawful (table_of r.table) → TablesDecide → (verified : Verified) → verified ≡ Yes
         → IsVerified (table_of r.table) graph root section verified
@@ -88,7 +88,7 @@ module _ (r : Prepared) (ready : IsReady r) (graph : List Obj) (root : Val) (sec
           encoded,
         )
 
-    -- The output is `no` with the fault.
+    -- If the verifier returns a fault, then the output is `no` with the fault.
     pub judged_no :
         TablesHaveTheFaults → TextsAreOfTypes → NeverBoth → (fault : Fault)
         → IsVerified (table_of r.table) graph root section (No fault) → (why : List ℕ)
@@ -114,7 +114,7 @@ module _ (r : Prepared) (ready : IsReady r) (graph : List Obj) (root : Val) (sec
           encoded,
         )
 
-  -- The entry is rejected for this reason.
+  -- If the verifier rejects the entry, then the value is not certified for this reason.
   pub judged_rejected :
       (verified : Verified) (why : Why) → verified ≡ Rejected why
       → IsVerified (table_of r.table) graph root section verified

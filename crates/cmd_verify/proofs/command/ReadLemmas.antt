@@ -1,4 +1,4 @@
--- The output for the values so far, while a chunk is taken.
+-- The output for the values so far, while a chunk is consumed.
 use Rattle.std.proofs.Common.{◌≡◌, ◌⊎◌, ℕ, ◌+◌, ◌<◌, ◌≤◌, Bool, List, [], ◌∷◌, ◌++◌, length, take, drop, Result, Ok, Err, inl, inr, refl, sym, ap, ◌∙◌, subst, append_assoc, append-nil}
 use Rattle.std.specs.Prelude.{◌&&◌, IsErrAnd, if◌then◌else◌}
 use Rattle.std.proofs.lemmas.Bool.{lt-ltb, le-ltb}
@@ -70,7 +70,7 @@ uncertified_read t all limit number value tree reason is (inl none) = inl none
 uncertified_read t all limit number value tree reason is (inr (why, by, encoded)) =
     inr (why, shown_read t all limit number value tree (rejects why) is by, encoded)
 
--- The state is preserved for equal types, entries and limits.
+-- If the types, the entries and the limits are equal, then the state is valid for both tasks.
 pub has_same :
     (r s : Prepared) (all others : List Section) (limit most : ℕ) (reader : Reader) (count : ℕ)
     (ok : Bool) (taken : List ℕ) (output : List Output) → r ≡ s → all ≡ others → limit ≡ most
@@ -85,7 +85,7 @@ module _ (r : Prepared) (all : List Section) (limit : ℕ) where
   abbrev a : Verification TypeOver Section
   a = certified r all limit
 
-  -- If the run ends at a value, then it ends at the bytes that begin with the value.
+  -- If the run ends at a value, then the run ends at the bytes that begin with the value.
   pub exit_begins :
       (items : List Item) (prefix rest : List ℕ) (n : ℕ) (exit : Exit)
       → ExitsNext r all limit items (prefix ++ take n rest) exit
@@ -107,7 +107,7 @@ module _ (r : Prepared) (all : List Section) (limit : ℕ) where
       abbrev Ends : Change ByteState → Result Bool Error → Type 0
       Ends out result = WritesLast on_certificates a output h.items h.prefix out result
 
-      -- Certificate entries are left.
+      -- If entries remain at the end of the input, then the run ends with an exit reason.
       pub ends_left :
           count < length all → (o : ByteState) → Ends (change o o) (Err (aborts.Exit sections_left))
       ends_left less o =
@@ -121,7 +121,7 @@ module _ (r : Prepared) (all : List Section) (limit : ℕ) where
             writes_nothing o,
           )
 
-      -- No certificate entries are left.
+      -- If no entries remain at the end of the input, then the run ends without an exit reason.
       pub ends_all : length all ≤ count → (o : ByteState) → Ends (change o o) (Ok ok)
       ends_all most o =
           let enough : length all ≤ length h.items = subst (λ n. length all ≤ n) h.counted most in (
@@ -140,7 +140,7 @@ module _ (r : Prepared) (all : List Section) (limit : ℕ) where
 
     module _ (v : IsValueRead r all limit reader count ok taken output) (value : Value)
         (f : Finishes limit v.whole value) where
-      -- This is the output for the value.
+      -- If the entry shows a text for the value, then the text is the output for the value.
       value_output :
           (text : List ℕ) (fine : Bool)
           → IsShownBy (type_over r) all count value.heap value.root (shows text fine)
@@ -155,7 +155,7 @@ module _ (r : Prepared) (all : List Section) (limit : ℕ) where
         output_is = refl;
       }
 
-      -- The output was written, and the reader waits for the next value.
+      -- If the output for the value was written, then the reader waits for the next value.
       pub value_written :
           (out : Change ByteState) (fine : Bool)
           → WritesShown (type_over r) all count value.heap value.root out (Ok fine)
@@ -192,7 +192,7 @@ module _ (r : Prepared) (all : List Section) (limit : ℕ) where
           let next : Output = record { text = line text; ok = fine } in
           (next, value_known (has_values r all limit) v f next (value_output text fine by), part)
 
-      -- The output was not written.
+      -- If the output for the value was not written, then the run ends with the error.
       pub value_aborts :
           (out : Change ByteState) (error : Error) (new : Reader) (count' : ℕ) (ok' : Bool)
           (result : Result (Unit {0}) Error) → IsErrAnd result (λ h. h ≡ error)

@@ -1,4 +1,4 @@
--- The task is unique, by the requested files. Each of these files is read, or it ends the run.
+-- The requested files determine the task. Each requested file is read, or the file ends the run.
 use Rattle.std.proofs.Common.{◌≡◌, ◌⊎◌, ◌<◌, ℕ, List, Some, Result, Ok, Err, inl, inr, refl, sym, ap, ◌∙◌, subst}
 use Rattle.std.specs.Prelude.{MatchResult}
 use Rattle.marshal_spec.specs.format.Tree.{Tree}
@@ -16,7 +16,7 @@ use Rattle.run_spec.proofs.value_commands.GivenLemmas.{type_given}
 use Rattle.run_spec.proofs.value_commands.TurnLemmas.{not_between, is_before, file_whole}
 use Rattle.cmd_verify.specs.spec.Verification.{Shown, Verification, Asked, typed_of, verified_by, ReadsSections, ReadsCertificateOf, WantedIn, VerifiesBy, Wants, Finds, verifying}
 
--- The arguments request one verification.
+-- The arguments request at most one verification.
 pub asked_once :
     (request : Request) (one other : Asked) → verified_by request ≡ Some one
     → verified_by request ≡ Some other → one ≡ other
@@ -81,7 +81,7 @@ module _ {D T E S : Type 0} (language : Language D T E) (Reads : ReadsSections S
         by (inr (now, e, type, reads)) (inl (now', e')) = absurd (cc (now, now'))
         by (inr (now, e, type, reads)) (inr (now', e', type', reads')) = e ∙ sym e'
 
-  -- ---- the task depends on these files
+  -- ---- the task depends on the requested files
 
   certificate_by :
       (files others : List ℕ → Found) (name : List ℕ) (result : Result (List S) Exit)
@@ -90,7 +90,7 @@ module _ {D T E S : Type 0} (language : Language D T E) (Reads : ReadsSections S
   certificate_by files others name result same (text, reads, next) =
       (text, subst (λ found. ReadsFile name found text) same reads, next)
 
-  -- The task, by the entries of CERT.
+  -- The task or the exit reason that follows from the entries of CERT.
   abbrev Sections : Fetches → Asked → Result (Verification T S) Exit → T → Type 0
   Sections files asked result type =
       Then (ReadsCertificateOf Reads (files 1) asked.certificate) (done type asked) result

@@ -1,5 +1,5 @@
--- The output for a value, the exit reason and the end of the input are unique, and they remain if
--- more bytes follow.
+-- The output for a value, the exit reason and the end of the input are unique. If more bytes
+-- follow, outputs and exit reasons remain.
 use Rattle.std.proofs.Common.{◌≡◌, ℕ, Bool, true, false, List, [], ◌∷◌, ◌++◌, length, Some, None, inl, inr, sym, ap, ◌∙◌, subst}
 use Rattle.std.specs.Prelude.{if◌then◌else◌, nat_lt, codes}
 use Rattle.base_data.specs.model.Bytes.{AreBytes}
@@ -50,7 +50,7 @@ module _ {T S : Type 0} (ShownBy : T → S → Tree → Shown → Type 0) (a : V
       no_exit exit (inr r) =
           fine r.refusal (end_once a.limit rest are_bytes end (refused r.refusal) tail r.tail)
 
-      -- If bytes are no value and are not refused, then the run continues.
+      -- If bytes begin with no value and are not refused, then the run continues.
       pub goes_on : GoesOn (verifying language Reads ShownBy) a items rest
       goes_on = record {
         no_exit = no_exit;
@@ -89,7 +89,7 @@ module _ {T S : Type 0} (ShownBy : T → S → Tree → Shown → Type 0) (a : V
       let same : why ≡ why' = cc one in
       is ∙ (ap (λ w. codes "certificate " ++ w) same ∙ sym is')
 
-  -- If a value is certified, then it has an entry that is not rejected.
+  -- A value is not both certified and uncertified.
   pub certified_or_not :
       (number : ℕ) (tree : Tree) (text reason : List ℕ) (ok : Bool)
       → IsShown ShownBy a number tree (shows text ok) → IsUncertified ShownBy a number tree reason

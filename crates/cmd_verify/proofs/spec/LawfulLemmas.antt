@@ -1,4 +1,4 @@
--- If the language is lawful, and everything parses in one way, then the command is lawful.
+-- If the language is lawful, and certificates are read once, then the command is lawful.
 use Rattle.marshal_spec.specs.format.Tree.{Tree}
 use Rattle.cli_spec.specs.Outcome.{Language}
 use Rattle.run_spec.specs.runs.Lawful.{AreLawful}

@@ -17,7 +17,7 @@ module _ {D T E S : Type 0} (language : Language D T E) (Reads : ReadsSections S
       IsCaused (verifying language Reads ShownBy) (certificate_tables language Reads ShownBy) arguments
       call status
 
-  -- No input causes either status.
+  -- No input ends the run with status 5 or 11.
   script_exit : (a : Verification T S) (input : List ℕ) → ExitWith ShownBy a input Script → ⊥
   script_exit a input (inl (is, h)) = cc is
   script_exit a input (inr (is, h)) = cc is

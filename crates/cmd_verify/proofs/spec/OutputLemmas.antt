@@ -1,4 +1,5 @@
--- The outputs for values and their certificate entries determine each other, as the tables state.
+-- The outputs for values and the certificate entries of the values determine each other, as the
+-- tables state.
 use Rattle.std.proofs.Common.{◌≡◌, ◌≤◌, ◌+◌, ℕ, suc, Bool, true, false, List, [], ◌∷◌, length, refl, sym, ap, ◌∙◌, subst, arith}
 use Rattle.std.specs.Prelude.{◌↔◌, if◌then◌else◌, nat_lt}
 use Rattle.std.proofs.lemmas.Bool.{lt-ltb, le-ltb, ltb-true, ltb-false}
@@ -20,20 +21,20 @@ use Rattle.cmd_verify.specs.spec.Verification.{Shown, shows, Verification, IsSho
 use Rattle.cmd_verify.specs.spec.ExitStatuses.{IsCertified, HasSection, Finish}
 
 module _ {T S : Type 0} (ShownBy : T → S → Tree → Shown → Type 0) (a : Verification T S) where
-  -- The output for the value with this number.
+  -- The output for the value of the tree, by the entry with this number.
   pub record IsOutput (number : ℕ) (tree : Tree) (output : Output) : Type 0 where
     pub text : List ℕ
     pub shown : IsShown ShownBy a number tree (shows text output.ok)
     pub is : output.text ≡ line text
 
-  -- The outputs for the values; the first value has this number.
+  -- The outputs for the values of the trees, by the entries from number `number` on.
   abbrev pub AreOutput : ℕ → List Tree → List Output → Type 0
   AreOutput number trees output = numbered.AreOutput IsOutput number trees output
 
   abbrev Certified : Bool → ℕ → Tree → Type 0
   Certified ok number tree = IsCertified ShownBy a ok number tree
 
-  -- If there is an output for a value, then the value has an entry.
+  -- If there is an output for a value, then the value has an accepted entry.
   section_of :
       (ok : Bool) (number : ℕ) (tree : Tree) → HasOutput IsOutput ok number tree
       → Certified ok number tree
@@ -56,7 +57,7 @@ module _ {T S : Type 0} (ShownBy : T → S → Tree → Shown → Type 0) (a : V
       → HoldsOfAll (HasSection ShownBy a) k trees
   all_have k trees output h = numbered.all_have IsOutput Certified section_of k trees output h
 
-  -- If values have entries, then there are at most as many values as entries.
+  -- If each value has an entry, then there are at least as many entries as values.
   pub as_many :
       (k : ℕ) (trees : List Tree) → HoldsOfAll (HasSection ShownBy a) k trees
       → k ≤ length a.sections → k + length trees ≤ length a.sections
@@ -71,7 +72,8 @@ module _ {T S : Type 0} (ShownBy : T → S → Tree → Shown → Type 0) (a : V
   all_counted trees h most =
       let few = as_many 0 trees h (omega arith) in omega (arith, few, most)
 
-  -- If the input ends after such values, then its status is one of the table.
+  -- If the input ends after values with these outputs, then the table contains the status of the
+  -- run.
   pub finish_of :
       (trees : List Tree) (output : List Output) (last : Reply) → AreOutput 0 trees output
       → last ≡ ends_sections ShownBy a (length trees)
@@ -108,7 +110,7 @@ module _ {T S : Type 0} (ShownBy : T → S → Tree → Shown → Type 0) (a : V
       → (output : List Output) × AreOutput k trees output
   print_some k trees h = numbered.print_some IsOutput Certified output_of k trees h
 
-  -- The replies for values and their end, with this status.
+  -- There are outputs for the values and a final reply with this status.
   abbrev pub IsReplied : List Tree → Status → Type 0
   IsReplied trees status =
       (all : Replies) × ((ending_of all).status ≡ status) × AreOutput 0 trees all.output
@@ -175,7 +177,7 @@ module _ {T S : Type 0} (ShownBy : T → S → Tree → Shown → Type 0) (a : V
       λ is. record { tree = tree; is = refl; text = is.text; shown = is.shown; output_is = is.is },
     )
 
-    -- The first values, as items.
+    -- If the bytes begin with the values of these trees, then the values are the first items.
     pub outputs_first :
         (bytes : List ℕ) (trees : List Tree) (output : List Output) (rest : List ℕ)
         → EncodeAll a.limit bytes trees rest → AreOutput 0 trees output
@@ -184,7 +186,7 @@ module _ {T S : Type 0} (ShownBy : T → S → Tree → Shown → Type 0) (a : V
         values_first language a.limit (verifying language Reads ShownBy) a first IsOutput reports bytes
         trees output rest encoded print
 
-    -- The first items, as values.
+    -- If the bytes begin with these items, then the items are values of trees.
     pub print_first :
         (bytes : List ℕ) (items : List Item) (output : List Output) (rest : List ℕ)
         → OutputsFirst (verifying language Reads ShownBy) a bytes items output rest

@@ -71,7 +71,7 @@ module _ {D T E S : Type 0} (language : Language D T E) (Reads : ReadsSections S
 
   -- ---- each row of the table is an exit reason
 
-  -- There is an exit reason with this status.
+  -- An exit reason of the bytes has this status.
   abbrev HasExit : Verification T S → List ℕ → Status → Type 0
   HasExit a bytes status = (exit : Exit) × (status_of exit ≡ status) × Stopping a bytes exit
 
@@ -201,7 +201,7 @@ module _ {D T E S : Type 0} (language : Language D T E) (Reads : ReadsSections S
           is_refused = refuses;
         })
 
-    -- There is an exit reason with this status before the input.
+    -- An exit reason before the input has this status.
     abbrev HasExitBefore : Status → Type 0
     HasExitBefore status =
         (exit : Exit) × (status_of exit ≡ status)

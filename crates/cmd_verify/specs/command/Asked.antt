@@ -1,4 +1,4 @@
--- The arguments of `verify`, after the type was read.
+-- The arguments of `verify`, after the type was read from FILE and TYPE.
 use Rattle.std.specs.Prelude.{ℕ, Bool, List, Ok}
 use Rattle.cli_spec.specs.declared.read_options.ReadOptions.{ReadOptions}
 use Rattle.cli_spec.specs.Outcome.{Found, asked_type, own, verify, Asks}
@@ -7,7 +7,7 @@ use Rattle.run_spec.specs.runs.Given.{Fetched}
 use Rattle.run_types.specs.declared.requested.Prepared.{Prepared}
 use Rattle.run_types.specs.Types.{GivesType}
 
--- FILE and TYPE gave this type, and CERT is read next.
+-- FILE and TYPE gave the type `r`, and the file `certificate` is read next.
 pub record AsksToVerify (arguments : List (List ℕ)) (r : Prepared) (certificate : List ℕ)
     (reading : ReadOptions) (files : Change FilesState) : Type 0 where
   pub file : List ℕ

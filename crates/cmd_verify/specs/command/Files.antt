@@ -1,4 +1,4 @@
--- The result of reading CERT.
+-- The result of reading the file CERT.
 use Rattle.std.specs.Prelude.{ℕ, ◌≡◌, ◌⊎◌, List, Some, Result, Ok, Err}
 use Rattle.cert_format.specs.declared.read.CertReader.{CertReader}
 use Rattle.cert_format.specs.declared.read.CertFault.{CertFault}
@@ -14,12 +14,14 @@ use Rattle.run_spec.specs.runs.Given.{Gathers, Fetched}
 use Rattle.cmd_verify.specs.spec.Verification.{ReadsCertificateOf}
 use Rattle.cmd_verify.specs.command.Shown.{reads_sections}
 
--- The exit reason reports the line with the error, or memory ran out.
+-- If a line of CERT is wrong, the exit reason reports the line. If memory ran out, the exit reason
+-- reports that memory ran out.
 abbrev pub IsCertificateExit : CertFault → Exit → Type 0
 IsCertificateExit (Syntax line) exit = exit ≡ certificate_line line
 IsCertificateExit Memory exit = exit ≡ out_of_memory
 
--- The certificate entries, or the exit reason if there are none. Memory may also run out.
+-- The result contains the certificate entries of the file, or the exit reason if the file has no
+-- entries. The exit reason may also be that memory ran out.
 abbrev pub GivesCertificate : List ℕ → Found → Result (List Section) Exit → Type 0
 GivesCertificate name found (Ok sections) =
     ReadsCertificateOf reads_sections (λ name. found) name (Ok sections)
@@ -31,14 +33,14 @@ abbrev pub FindsCertificateIn : Change FilesState → List ℕ → Result (List 
 FindsCertificateIn files name result =
     (found : Found) × Fetched files name found × GivesCertificate name found result
 
--- ---- while its bytes arrive
+-- ---- while the bytes of CERT arrive
 
--- The bytes, taken up to their end.
+-- The bytes, taken up to the end of the source.
 abbrev pub all_of : List ℕ → Taken
 all_of bytes = record { bytes = bytes; until = at_end }
 
--- All bytes of the source were passed to the reader. Or the exit reason says why no more bytes were
--- taken.
+-- If the result is `Ok`, all bytes of the source were passed to the reader. If the result is an
+-- exit reason, the exit reason states why no more bytes were taken.
 abbrev pub ComesWhole : Change ByteState → CertReader → Result (Unit {0}) Exit → Type 0
 ComesWhole source reader (Ok done) =
     (bytes : List ℕ) × Gathers source (all_of bytes) × HasCome reader bytes
@@ -46,7 +48,8 @@ ComesWhole source reader (Err exit) =
     (taken : Taken) × Gathers source taken
     × ((fault_of taken.until ≡ Some exit) ⊎ (exit ≡ out_of_memory))
 
--- The bytes taken from the source give the entries or the exit reason, whatever the file's name is.
+-- The bytes taken from the source determine the entries or the exit reason, for every name of the
+-- file.
 abbrev pub TakesCertificate : Change ByteState → Result (List Section) Exit → Type 0
 TakesCertificate source result =
     (taken : Taken) × Gathers source taken

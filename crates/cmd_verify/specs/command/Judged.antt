@@ -1,4 +1,4 @@
--- The result of the code for a value and its certificate entry.
+-- The result that the code returns for a value and the value's certificate entry.
 use Rattle.std.specs.Prelude.{ℕ, ◌≡◌, ◌⊎◌, Bool, List, [], ◌++◌, slice_get, Some, None, Result, Ok}
 use Rattle.std.specs.Prelude.{Err, codes}
 use Rattle.base_data.specs.declared.model.value.Val.{Val}
@@ -17,7 +17,7 @@ use Rattle.cmd_verify.specs.declared.command.judge.VerifiedValue.{VerifiedValue}
 use Rattle.cmd_verify.specs.declared.command.judge.VerifiedValue.TheVariants.{Line, Uncertified}
 use Rattle.cmd_verify.specs.command.Shown.{IsShownAt}
 
--- By one certificate entry.
+-- The result for a value by one certificate entry.
 abbrev pub Judges : TypeOver → Section → List Obj → Val → VerifiedValue → Type 0
 Judges t section graph v (Line text ok) =
     (output : List ℕ) × IsShownAt t section graph v (shows output ok) × (text ≡ line output)
@@ -25,13 +25,13 @@ Judges t section graph v (Uncertified reason) =
     (why : List ℕ) × IsShownAt t section graph v (rejects why)
     × (reason ≡ codes "certificate " ++ why)
 
--- The certificate entry with this number gives this result.
+-- The certificate entry with number `number` gives the result `shown` for the value.
 abbrev pub IsShownBy : TypeOver → List Section → ℕ → List Obj → Val → Shown → Type 0
 IsShownBy t sections number graph v shown =
     (section : Section) × (slice_get sections number ≡ Some section)
     × IsShownAt t section graph v shown
 
--- There is no such entry, or it is rejected.
+-- There is no certificate entry with number `number`, or the entry is rejected for the reason.
 abbrev pub IsUncertifiedBy : TypeOver → List Section → ℕ → List Obj → Val → List ℕ → Type 0
 IsUncertifiedBy t sections number graph v reason =
     ((slice_get sections number ≡ None) × (reason ≡ codes "no section"))
@@ -44,8 +44,9 @@ JudgesAt t sections number graph v (Line text ok) =
 JudgesAt t sections number graph v (Uncertified reason) =
     IsUncertifiedBy t sections number graph v reason
 
--- The line is written. Or the value is not certified or memory ran out, and nothing is written. Or
--- writing the output fails.
+-- How the output for a value is written. Case `Ok`: the line is written. Case `Exit`: the value is
+-- not certified or memory ran out, and nothing is written. The last case is that writing the output
+-- fails.
 abbrev pub WritesShown : TypeOver → List Section → ℕ → List Obj → Val → Change ByteState
     → Result Bool Error → Type 0
 WritesShown t sections number graph v out (Ok ok) =

@@ -22,7 +22,7 @@ use Rattle.cert_verify.specs.agreement.Agree.{IsAnswerAt}
 use Rattle.run_types.specs.Language.{TypeOver}
 use Rattle.cmd_verify.specs.spec.Verification.{Shown, shows, rejects}
 
--- The text of a reason.
+-- The text of a reason why an entry is rejected.
 abbrev pub why_text : Why → List ℕ
 why_text (Range i) = codes "Range(" ++ decimal i ++ codes ")"
 why_text (Unfit i) = codes "Unfit(" ++ decimal i ++ codes ")"
@@ -32,20 +32,21 @@ why_text Root = codes "Root"
 why_text NotFault = codes "NotFault"
 
 module _ (t : TypeOver) (section : Section) (graph : List Obj) (v : Val) where
-  -- By a table of the types that the type reaches, this is the result of the certificate entry.
+  -- The verifier returns this result for the certificate entry, by a table of the types that the
+  -- type reaches.
   abbrev pub Answers : Verified → Type 0
   Answers = IsAnswerAt t.decls t.type graph v section
 
-  -- The pairs of the entry are accepted, so the value has the type and each of its closed
-  -- instances.
+  -- The pairs of the entry are accepted. The value has the type and each closed instance of the
+  -- type.
   pub record ShowsType (line : List ℕ) : Type 0 where
     pub accepted : Answers Yes
     pub has : HasType (declared_shapes t.decls) graph v t.type
     pub each : HasEachInstance t.decls graph v t.type
     pub is : line ≡ codes "yes"
 
-  -- The paths of the entry are a fault, so the value lacks the type and some closed instance of it.
-  -- If there are several faults, the entry may state any of them.
+  -- The paths of the entry are a fault. The value lacks the type and some closed instance of the
+  -- type. If there are several faults, the entry may state any of the faults.
   pub record ShowsFault (line : List ℕ) : Type 0 where
     pub fault : Fault
     pub accepted : Answers (No fault)
@@ -56,7 +57,7 @@ module _ (t : TypeOver) (section : Section) (graph : List Obj) (v : Val) where
     pub is_text : IsFaultText (declared_shapes t.decls) type_text graph v t.type fault text
     pub is : line ≡ codes "no " ++ text
 
-  -- The entry is rejected, and this is the first reason.
+  -- The entry is rejected, and `reason` is the text of the first reason.
   pub record IsRejected (reason : List ℕ) : Type 0 where
     pub why : Why
     pub rejected : Answers (Rejected why)
@@ -67,13 +68,13 @@ module _ (t : TypeOver) (section : Section) (graph : List Obj) (v : Val) where
   IsShownAt (shows line false) = ShowsFault line
   IsShownAt (rejects reason) = IsRejected reason
 
--- The result of the entry for the value of a tree.
+-- What the entry shows about the value that the tree encodes.
 abbrev pub declared_sections : TypeOver → Section → Tree → Shown → Type 0
 declared_sections t section tree shown =
     IsShownAt t section (objects_of tree 0) (root tree 0) shown
 
--- The text is the certificate with these entries, or this is the number of its first line with an
--- error.
+-- If the result is `Ok`, the text is the certificate with these entries. If the result is a line
+-- number, the first error of the text is in the line with this number.
 abbrev pub reads_sections : List ℕ → Result (List Section) ℕ → Type 0
 reads_sections text (Ok all) = IsCertificate text all
 reads_sections text (Err line) = IsSyntaxAt text line

@@ -1,21 +1,21 @@
 -- Exit status specification of the command `verify`:
 --
--- - 0: Each value has its certificate entry, which proves that the value is without errors, and no
---   entry remains (`Finish`).
--- - 1: Each value has its entry, which is accepted, and no entry remains. One of the entries proves
---   that its value has an error (`Finish`).
+-- - 0: Each value has a certificate entry that proves the value to be without errors, and no entry
+--   remains (`Finish`).
+-- - 1: Each value has an accepted entry, and no entry remains. One of the entries proves that its
+--   value has an error (`Finish`).
 -- - 2: The arguments are invalid.
--- - 3: The contents of FILE are refused, or TYPE is (`Bar`).
--- - 4: A value is refused (`HoldRefusal`) or truncated (`AreSplit`), and all values before it have
---   their entries.
--- - 6: FILE is not read to its end, or CERT is not, in its turn (`Bar`).
--- - 8: FILE cannot be opened, or CERT cannot, in its turn (`Bar`).
--- - 10: FILE has 2^48 bytes or more, or CERT has, in its turn (`Bar`).
--- - 12: The contents of CERT are no certificate (`Bar`). Or a value has no entry, or its entry is
---   rejected (`HoldBreak`). Or entries remain at the end (`Finish`).
+-- - 3: The contents of FILE or the text TYPE are refused (`Bar`).
+-- - 4: A value is refused (`HoldRefusal`) or truncated (`AreSplit`), and all values before the
+--   value have entries.
+-- - 6: FILE or CERT is not read to the end, in the file's turn (`Bar`).
+-- - 8: FILE or CERT cannot be opened, in the file's turn (`Bar`).
+-- - 10: FILE or CERT has 2^48 bytes or more, in the file's turn (`Bar`).
+-- - 12: The contents of CERT are no certificate (`Bar`). Status 12 is also returned if a value has
+--   no entry or a rejected entry (`HoldBreak`), or if entries remain at the end (`Finish`).
 --
--- Neither the values nor the files cause any other status. The meanings of 6, 7, 9 and 10 for the
--- input, for out and for memory are the same for all commands; run_spec::runs defines them.
+-- Neither the values nor the files cause any other status. The definitions in run_spec::runs state
+-- what 6, 7, 9 and 10 mean for the input, for out and for memory.
 use Rattle.std.specs.Prelude.{ℕ, ◌<◌, ◌≡◌, ◌≢◌, ◌⊎◌, Bool, true, false, List, [], ◌∷◌, ◌++◌, length}
 use Rattle.std.specs.Prelude.{Some, Ok, Err}
 use Rattle.marshal_spec.specs.format.Stream.{EncodeAll}
@@ -37,8 +37,8 @@ use Rattle.cmd_verify.specs.spec.Verification.{Asked, typed_of, verified_by, Rea
 use Rattle.cmd_certify.specs.spec.Ends as ends
 
 module _ {T S : Type 0} (ShownBy : T → S → Tree → Shown → Type 0) (a : Verification T S) where
-  -- The value has an entry that is accepted, and `ok` says whether the entry proves the value to
-  -- be without errors.
+  -- The value has an entry that is accepted. `ok` states whether the entry proves the value to be
+  -- without errors.
   abbrev pub IsCertified : Bool → ℕ → Tree → Type 0
   IsCertified ok number tree = (line : List ℕ) × IsShown ShownBy a number tree (shows line ok)
 
@@ -55,12 +55,12 @@ module _ {T S : Type 0} (ShownBy : T → S → Tree → Shown → Type 0) (a : V
   Finish trees Certificate = HoldsOfAll HasSection 0 trees × (length trees < length a.sections)
   Finish trees status = ⊥
 
-  -- If the input is these bytes, then the run has this status at its end. The status is 4 if a
-  -- value is truncated.
+  -- If the input consists of these bytes, then the run has this status at the end of the input. If
+  -- a value is truncated, the status is 4.
   abbrev pub EndWith : List ℕ → Status → Type 0
   EndWith bytes status = ends.EndWith a.limit HasSection Finish bytes status
 
-  -- The bytes begin with values that have their entries, followed by a value that is not certified.
+  -- The bytes begin with values that have entries, followed by a value that is not certified.
   pub record HoldBreak (bytes : List ℕ) : Type 0 where
     pub trees : List Tree
     pub tree : Tree
@@ -70,7 +70,7 @@ module _ {T S : Type 0} (ShownBy : T → S → Tree → Shown → Type 0) (a : V
     pub reason : List ℕ
     pub breaks : IsUncertified ShownBy a (length trees) tree reason
 
-  -- The bytes end the run with this status, whatever follows them.
+  -- The bytes end the run with this status, for any bytes that follow.
   abbrev pub ExitWith : List ℕ → Status → Type 0
   ExitWith bytes status =
       ((status ≡ Certificate) × HoldBreak bytes)
@@ -78,7 +78,7 @@ module _ {T S : Type 0} (ShownBy : T → S → Tree → Shown → Type 0) (a : V
 
 module _ {D T E S : Type 0} (language : Language D T E) (Reads : ReadsSections S)
     (ShownBy : T → S → Tree → Shown → Type 0) where
-  -- FILE is read, and its contents are refused, or TYPE is.
+  -- FILE is read, and the contents of FILE or the text TYPE are refused.
   pub record RefusesTypes (request : Request) (files : Fetches) : Type 0 where
     pub asked : Asked
     pub is_asked : verified_by request ≡ Some asked
@@ -86,7 +86,7 @@ module _ {D T E S : Type 0} (language : Language D T E) (Reads : ReadsSections S
     pub read : files 0 asked.file ≡ opened (whole text)
     pub is_refused : IsRefusedType language text asked.type
 
-  -- CERT is read, in its turn, and its contents are no certificate.
+  -- CERT is read in the second turn, and the contents of CERT are no certificate.
   pub record RefusesCertificate (request : Request) (files : Fetches) : Type 0 where
     pub asked : Asked
     pub is_asked : verified_by request ≡ Some asked
@@ -97,7 +97,7 @@ module _ {D T E S : Type 0} (language : Language D T E) (Reads : ReadsSections S
     pub line : ℕ
     pub is_refused : Reads text (Err line)
 
-  -- FILE is not read to its end, or CERT is not, in its turn; and the exit reason has this status.
+  -- FILE or CERT is not read to the end, in the file's turn, and the exit reason has this status.
   pub record IsUnread (request : Request) (files : Fetches) (status : Status) : Type 0 where
     pub turn : ℕ
     pub name : List ℕ
@@ -106,8 +106,8 @@ module _ {D T E S : Type 0} (language : Language D T E) (Reads : ReadsSections S
     pub fault : ReadsFile name (files turn name) (Err exit)
     pub is : status_of exit ≡ status
 
-  -- The request and the results of fetching its files end the run before the input, with this
-  -- status.
+  -- The request and the results of fetching the requested files end the run with this status,
+  -- before the input is read.
   abbrev pub Bar : Request → Fetches → Status → Type 0
   Bar request files Types = RefusesTypes request files
   Bar request files Certificate = RefusesCertificate request files
@@ -124,6 +124,6 @@ module _ {D T E S : Type 0} (language : Language D T E) (Reads : ReadsSections S
     EndWith = EndWith ShownBy;
   }
 
--- Statuses 5 and 11 never occur.
+-- The call does not end with status 5 or 11.
 abbrev pub IsNeverEdited : Call → Type 0
 IsNeverEdited call = (call.status ≢ Script) × (call.status ≢ Compat)

@@ -1,4 +1,4 @@
-//! The command `verify`: reads the files and verifies the values by their certificate entries. The
+//! The command `verify`: reads the files and verifies each value by its certificate entry. The
 //! contract states that the run satisfies `Account`.
 
 ghost use Rattle.std.specs.Prelude.{List, ℕ};
@@ -23,7 +23,7 @@ use run_loop::work::run_reported;
 use run_types::{Requested, find_type};
 use std::alloc::Global;
 
-// Verifies the values at the type by the certificate entries.
+// Verifies the values of the input at the requested type by the certificate entries.
 fn verify_values<S: Source, K: Sink, E: Sink>(
     alloc: Global,
     requested: &Requested,
@@ -47,7 +47,7 @@ fn verify_values<S: Source, K: Sink, E: Sink>(
     run_reported(alloc, &mut skip_command, input, out, err)
 }
 
-// Reads CERT and verifies the values.
+// Reads CERT, and verifies the values of the input at the requested type.
 fn verify_by<S: Source, O: Opener, K: Sink, E: Sink>(
     alloc: Global,
     requested: &Requested,
@@ -80,7 +80,7 @@ fn verify_by<S: Source, O: Opener, K: Sink, E: Sink>(
     }
 }
 
-// Reads CERT and verifies the values at the type from FILE and TYPE.
+// Reads CERT, and verifies the values of the input at the type that FILE and TYPE denote.
 fn verify_over<S: Source, O: Opener, K: Sink, E: Sink>(
     alloc: Global,
     requested: Requested,
@@ -111,7 +111,8 @@ fn verify_over<S: Source, O: Opener, K: Sink, E: Sink>(
     )
 }
 
-/// Reads FILE and TYPE, then CERT, and verifies the values. Returns the exit status.
+/// Reads FILE and TYPE, and CERT after FILE, and verifies the values of the input. Returns the exit
+/// status.
 pub fn verify<S: Source, O: Opener, K: Sink, E: Sink>(
     alloc: Global,
     file: &str,

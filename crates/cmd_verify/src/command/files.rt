@@ -1,7 +1,7 @@
-//! Reads the file CERT while its bytes arrive.
+//! Reads the file CERT while the bytes of CERT arrive.
 
-ghost use Rattle.std.specs.Prelude.{ℕ, ◌≡◌, ◌<◌, ◌+◌, ◌^◌, ◌++◌, [], length, vec_len, List as Seq};
-ghost use Rattle.std.specs.Prelude.{IfOk, OnOk};
+ghost use Rattle.std.specs.Prelude.{ℕ, ◌≡◌, ◌<◌, ◌+◌, ◌^◌, ◌++◌, [], length, List as Seq};
+ghost use Rattle.std.specs.Prelude.{OnOk};
 ghost use Rattle.base_data.specs.model.Bytes.{AreBytes};
 ghost use Rattle.cli_spec.specs.Outcome.{opened};
 ghost use Rattle.base_io.specs.State.{as_source, change};
@@ -16,7 +16,7 @@ use base_io::{OpenError, Opener};
 use cert_format::{Cert, CertFault, CertReader};
 use cli_errors::made::unopened_file;
 use cli_spec::exit::Exit;
-use run_loop::work::{CHUNK, LENGTH_LIMIT};
+use run_loop::work::{LENGTH_LIMIT, new_buffer};
 use std::alloc::Global;
 
 /// Returns the exit reason for a CERT that is refused.
@@ -27,13 +27,6 @@ fn certificate_exit(fault: CertFault) -> Exit
         CertFault::Syntax(line) => Exit::Certificate(line),
         CertFault::Memory => Exit::Memory,
     }
-}
-
-/// Allocates the buffer for one read.
-fn new_buffer(alloc: Global) -> Result<Vec<u8>, Memory>
-    ensures { IfOk result (λ buffer. vec_len buffer ≡ chunk_limit) }
-{
-    Ok(vec![in alloc; 0; CHUNK]?)
 }
 
 /// Passes the next chunk to the certificate reader.
@@ -47,8 +40,8 @@ fn forward(reader: &mut CertReader, chunk: &[u8]) -> Result<(), Memory>
     reader.take(chunk)
 }
 
-// Passes the bytes of CERT to the reader, up to the end, an error or 2^48 bytes. It continues after
-// a refused line, because a read error takes precedence over a refused line.
+// Passes the bytes of CERT to the reader, up to the end, an error or 2^48 bytes. Bytes after a
+// refused line are also read, because a read error takes precedence over a refused line.
 fn take_chunks<O: Opener>(
     files: &mut O,
     reader: &mut CertReader,
@@ -80,7 +73,7 @@ fn take_chunks<O: Opener>(
     Err(Exit::TooLong)
 }
 
-// Returns the certificate entries of a CERT that was read to its end.
+// Returns the certificate entries of a CERT that was read to the end, or the exit reason.
 fn read_end(reader: CertReader) -> Result<Cert, Exit>
     requires { (bytes : Seq ℕ) × HasCome reader bytes × (length bytes < 2 ^ 63) }
     ensures { (name bytes : Seq ℕ) → HasCome reader bytes
@@ -92,7 +85,8 @@ fn read_end(reader: CertReader) -> Result<Cert, Exit>
     }
 }
 
-// Reads the file fetched last as a CERT.
+// Reads the file that was fetched last as a CERT. Returns the certificate entries, or the exit
+// reason.
 fn read_fetched<O: Opener>(alloc: Global, files: &mut O) -> Result<Cert, Exit>
     ensures taken { TakesCertificate
         (change (as_source (O.state files.old)) (as_source (O.state files.new))) result }
@@ -111,7 +105,8 @@ fn read_fetched<O: Opener>(alloc: Global, files: &mut O) -> Result<Cert, Exit>
     }
 }
 
-/// Reads the file `name` as a CERT. The error is the exit reason.
+/// Fetches and reads the file `name` as a CERT. Returns the certificate entries, or the exit
+/// reason.
 pub fn find_certificate<O: Opener>(alloc: Global, files: &mut O, name: &str) -> Result<Cert, Exit>
     ensures { FindsCertificateIn (change (O.state files.old) (O.state files.new)) name.now result }
 {

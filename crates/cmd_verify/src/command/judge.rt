@@ -1,4 +1,4 @@
-//! Checks a value by its certificate entry.
+//! Checks a value by the value's certificate entry.
 
 ghost use Rattle.std.specs.Prelude.{IfOk};
 ghost use Rattle.types_table.specs.type_table.Made.{table_of};
@@ -10,11 +10,11 @@ ghost use Rattle.cmd_verify.specs.command.Judged.{Judges, JudgesAt};
 use crate::command::reason::write_why;
 use base_data::model::Memory;
 use base_data::model::list::List;
+use base_data::text::write;
 use cert_format::Section;
 use cert_verify::certificate::{Verified, verify};
 use check_fault::fault_text;
 use check_fault::laws::texts_are_of_types;
-use cli_errors::write::write;
 use marshal_heap::heap::Rooted;
 use run_types::Requested;
 use std::alloc::Global;
@@ -22,16 +22,16 @@ use types_spec::types::fault::Fault;
 use types_theory::equality::table::tables_have_the_faults;
 use types_theory::table::{tables_decide, type_or_fault};
 
-/// The result for a value: its output with a line feed, and whether the value is ok. Or the reason
-/// why the certificate does not certify it.
+/// The result for a value. `Line` contains the output with a line feed, and whether the value is
+/// ok. `Uncertified` contains the reason why the certificate does not certify the value.
 #[derive(Drop)]
 pub enum VerifiedValue {
     Line(List<u8>, bool),
     Uncertified(List<u8>),
 }
 
-/// Checks a value by the certificate entry with this number. If there is none, the value is not
-/// certified.
+/// Checks a value by the certificate entry with this number. If there is no such entry, the value
+/// is not certified.
 pub fn judge(
     alloc: Global,
     value: &Rooted<'_>,
@@ -50,7 +50,7 @@ pub fn judge(
     judge_by(alloc, value, requested, &sections[number as usize])
 }
 
-/// Checks a value by a certificate entry.
+/// Checks a value by one certificate entry.
 fn judge_by(
     alloc: Global,
     value: &Rooted<'_>,
@@ -64,7 +64,7 @@ fn judge_by(
     known(alloc, value, requested, section, &verified)
 }
 
-/// Returns the output for the result of a certificate entry.
+/// Returns the output for a value, given the verifier's result for the value's certificate entry.
 fn known(
     alloc: Global,
     value: &Rooted<'_>,

@@ -1,4 +1,4 @@
-//! The laws. The functions do nothing and exist only for their contracts.
+//! Laws about certificates at declared types, as contracts of lemma functions.
 
 ghost use Rattle.std.specs.Prelude.{List};
 ghost use Rattle.types_spec.specs.declared.types.decl.Decl.{Decl};
@@ -12,7 +12,7 @@ use crate::spec::laws::Verifies;
 use cert_format::texts_are_one;
 use cert_verify::agreement::laws::tables_verify_agree;
 
-/// Certificates of values of declared types.
+/// The parameters of `verify` for certificates of values of declared types.
 pub struct DeclaredSections;
 
 impl Verifies for DeclaredSections {

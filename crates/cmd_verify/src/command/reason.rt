@@ -4,11 +4,11 @@ ghost use Rattle.std.specs.Prelude.{◌≡◌, ◌++◌, codes, decimal, IfOk, O
 ghost use Rattle.cmd_verify.specs.command.Shown.{why_text};
 
 use base_data::model::Memory;
+use base_data::text::write;
 use cert_verify::certificate::Why;
-use cli_errors::write::write;
 use std::alloc::{AllocError, Global};
 
-// Returns a name with a number.
+// Returns the text of a name, followed by a number in parentheses.
 fn with_number(alloc: Global, name: &str, number: u64) -> Result<String, AllocError>
     ensures { IfOk result
         (λ text. string_bytes text ≡ name.now ++ codes "(" ++ decimal number ++ codes ")") }
@@ -16,7 +16,7 @@ fn with_number(alloc: Global, name: &str, number: u64) -> Result<String, AllocEr
     format!(in alloc; "{name}({number})")
 }
 
-// Returns a name with two numbers.
+// Returns the text of a name, followed by two numbers in parentheses.
 fn with_numbers(alloc: Global, name: &str, one: u64, other: u64) -> Result<String, AllocError>
     ensures { IfOk result
         (λ text. string_bytes text
@@ -25,7 +25,7 @@ fn with_numbers(alloc: Global, name: &str, one: u64, other: u64) -> Result<Strin
     format!(in alloc; "{name}({one}, {other})")
 }
 
-// Appends a name with a number.
+// Appends the text of a name, followed by a number in parentheses.
 fn write_number(text: &mut Vec<u8>, alloc: Global, name: &str, number: u64) -> Result<(), Memory>
     ensures { OnOk result
         (text.new.items
@@ -35,7 +35,7 @@ fn write_number(text: &mut Vec<u8>, alloc: Global, name: &str, number: u64) -> R
     write(text, named.as_bytes())
 }
 
-// Appends the text of a missing required field.
+// Appends the reason that a required field of a pair is missing.
 fn write_need(text: &mut Vec<u8>, alloc: Global, pair: u64, field: u64) -> Result<(), Memory>
     ensures { OnOk result
         (text.new.items
@@ -46,7 +46,7 @@ fn write_need(text: &mut Vec<u8>, alloc: Global, pair: u64, field: u64) -> Resul
     write(text, named.as_bytes())
 }
 
-/// Appends the text of a reason.
+/// Appends the text of a reason why an entry is rejected.
 pub fn write_why(text: &mut Vec<u8>, alloc: Global, why: Why) -> Result<(), Memory>
     ensures { OnOk result (text.new.items ≡ text.old.items ++ why_text why) }
 {

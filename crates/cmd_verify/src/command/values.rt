@@ -1,5 +1,5 @@
-//! The values of the input, one by one, while their bytes arrive. Each is verified by its
-//! certificate entry.
+//! Verifies the values of the input, one by one, while their bytes arrive. Each value is verified
+//! by its certificate entry.
 
 ghost use Rattle.std.specs.Prelude.{◌≡◌, ◌<◌, ◌+◌, ◌^◌, ℕ, List, [], length, true};
 ghost use Rattle.cli_spec.specs.Outcome.{Output};
@@ -22,7 +22,7 @@ use std::alloc::Global;
 use std::mem;
 
 /// Writes the output for a value by the certificate entry with this number. Returns true if the
-/// value is ok. If the value is not certified, the run ends.
+/// value is ok. If the value is not certified, fails with the exit reason.
 fn write_shown<K: Sink>(
     alloc: Global,
     value: &Rooted<'_>,
@@ -43,8 +43,8 @@ fn write_shown<K: Sink>(
     }
 }
 
-/// The state of the command: the number of values so far, whether all are ok, the reader of the
-/// next value, and the certificate entries.
+/// The state of the command: the number of values so far, whether all values are ok, the reader of
+/// the next value, and the certificate entries.
 #[derive(Drop)]
 pub struct Certified<'a> {
     requested: &'a Requested,
@@ -56,7 +56,7 @@ pub struct Certified<'a> {
 }
 
 impl<'a> Certified<'a> {
-    /// Creates the state before any byte is taken. `limit` is the greatest number of 64-bit words
+    /// Creates the state before any byte is consumed. `limit` is the maximum number of 64-bit words
     /// in a value.
     pub fn new(
         alloc: Global,
@@ -82,7 +82,7 @@ impl<'a> Certified<'a> {
     }
 
     /// Writes the output for the value that the reader has read completely. A new reader for the
-    /// next value reuses the memory of this one.
+    /// next value reuses the memory of the old reader.
     fn write_value<K: Sink>(&mut self, alloc: Global, out: &mut K) -> Result<(), Error>
         requires { (taken : List ℕ) × (output : List Output)
             × IsValueRead self.old.requested.now self.old.sections.now self.old.limit
@@ -137,13 +137,8 @@ impl Work for Certified<'_> {
         true
     }
 
-    fn feed<K: Sink>(
-        &mut self,
-        alloc: Global,
-        buffered: &[u8],
-        out: &mut K,
-    ) -> Result<usize, Error> {
-        match self.reader.feed(buffered) {
+    fn feed<K: Sink>(&mut self, alloc: Global, chunk: &[u8], out: &mut K) -> Result<usize, Error> {
+        match self.reader.feed(chunk) {
             Ok(fed) => {
                 if fed.done {
                     self.write_value(alloc, out)?;

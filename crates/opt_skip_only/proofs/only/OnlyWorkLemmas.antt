@@ -28,7 +28,7 @@ module _ {A : Type 0} (picked_by : Request → Option ℕ) (c : Commands A) (a :
 
   module _ (k : ℕ) where
     -- If nothing ends the run of the command up to the selected item, then nothing ends the run
-    -- with `--only` there.
+    -- with `--only` up to the selected item.
     abbrev pub hold_within : (bytes : List ℕ) (known : List Output) → length known ≤ k
         → HaveNoExit c a bytes known → HaveNoExit one (Some k, a) bytes (output_of_one k known)
     hold_within bytes known few h = record {
@@ -51,7 +51,8 @@ module _ {A : Type 0} (picked_by : Request → Option ℕ) (c : Commands A) (a :
         subst (λ s. HaveNoExit one (Some k, a) bytes s) (sym h.output_are)
         (hold_within bytes h.known h.up_to (inner bytes h.known h.there))
 
--- The run ends where that of the command ends, or memory ran out.
+-- If the run of the command ends or memory ran out, then the run with `--only` ends or memory ran
+-- out.
 pub exits_too : {A : Type 0} (k : ℕ) (c : Commands A) (a : A) (items : List Item) (bytes : List ℕ) (exit : Exit)
     → length items ≤ k → (c.Exits a items bytes exit) ⊎ (exit ≡ out_of_memory)
     → (ExitsBy c (Some k) a items bytes exit) ⊎ (exit ≡ out_of_memory)
@@ -61,7 +62,7 @@ exits_too k c a items bytes exit few (inr memory) = inr memory
 -- ---- current bytes
 
 module _ {A : Type 0} (c : Commands A) (a : A) where
-  -- Current bytes are consumed as usual, and no output is written.
+  -- Current bytes are consumed as without `--only`, but no output is written.
   abbrev pub FeedsUnsaid : Has → Has → List ℕ → Result ℕ Error → Type 0
   FeedsUnsaid before after buffered (Ok n) =
       Feeds c a before after buffered (change nowhere nowhere) (Ok n)
@@ -73,7 +74,7 @@ module _ {A : Type 0} (picked_by : Request → Option ℕ) (c : Commands A) (a :
   abbrev There : List ℕ → List Output → Type 0
   There = HasPicked (Some k) has
 
-  -- Case: no further item ends.
+  -- If no further item ends in the current bytes, then the outputs are unchanged.
   none_more : (new : Has) (n : ℕ) (buffered bytes : List ℕ) (output : List Output) (h : There bytes output)
       → new (bytes ++ take n buffered) (h.known ++ [])
       → HasPicked (Some k) new (bytes ++ take n buffered) (output ++ [])
@@ -84,7 +85,7 @@ module _ {A : Type 0} (picked_by : Request → Option ℕ) (c : Commands A) (a :
     there = subst (λ t. new (bytes ++ take n buffered) t) (append-nil h.known) there;
   }
 
-  -- Case: one more item ends before the selected one.
+  -- If one more item ends before the selected item, then the outputs grow by an empty output.
   one_more : (new : Has) (n : ℕ) (buffered bytes : List ℕ) (output : List Output) (next : Output)
       (h : There bytes output) → length h.known < k → new (bytes ++ take n buffered) (h.known ++ next ∷ [])
       → HasPicked (Some k) new (bytes ++ take n buffered) (output ++ nothing_output ∷ [])
@@ -96,13 +97,14 @@ module _ {A : Type 0} (picked_by : Request → Option ℕ) (c : Commands A) (a :
         there = there;
       }
 
-  -- The result of an item.
+  -- At most one further item ends in the current bytes, and the output for that item is written.
   abbrev Came : (new : Has) (n : ℕ) (buffered bytes : List ℕ) (output : List Output) → Change ByteState → Type 0
   Came new n buffered bytes output out =
       (more : List Output) × (length more ≤ 1)
       × HasPicked (Some k) new (bytes ++ take n buffered) (output ++ more) × Writes out (texts_of more)
 
-  -- Case: the run ends.
+  -- If an exit reason ends the run of the command at the current bytes, then it ends the run with
+  -- `--only`.
   aborts_at : (buffered : List ℕ) (inner out : Change ByteState) (bytes : List ℕ) (known : List Output)
       → length known ≤ k → (exit : Exit) → Writes out []
       → AbortsIn c a bytes buffered known inner (aborts.Exit exit)
@@ -120,7 +122,8 @@ module _ {A : Type 0} (picked_by : Request → Option ℕ) (c : Commands A) (a :
       → c.Exits a items bytes (finished ok) → ⊥
 
   module _ (never : NeverFinishes) where
-    -- Case: an item before the selected one. No output is written.
+    -- If the current bytes belong to an item before the selected item, then the bytes are consumed
+    -- without output.
     pub fed_before : (new : Has) (buffered : List ℕ) (o : ByteState)
         → ((bytes : List ℕ) (known : List Output) → has bytes known → length known < k)
         → (result : Result ℕ Error) → FeedsUnsaid c a has new buffered result
@@ -151,7 +154,8 @@ module _ {A : Type 0} (picked_by : Request → Option ℕ) (c : Commands A) (a :
           by bytes known few (inr f) = absurd (never f.items f.rest f.ok f.at)
     fed_before new buffered o less (Err aborts.WriteFault) f = absurd f
 
-    -- Case: within the selected item.
+    -- If the current bytes are within the selected item, then they are consumed as without
+    -- `--only`.
     pub fed_within : (new : Has) (buffered : List ℕ) (out : Change ByteState) (n : ℕ)
         → ((bytes : List ℕ) (known : List Output) → has bytes known → length known ≡ k)
         → ((bytes : List ℕ) (known : List Output) → new bytes known → length known ≤ k)
@@ -171,7 +175,8 @@ module _ {A : Type 0} (picked_by : Request → Option ℕ) (c : Commands A) (a :
             let parts = length-append h.known (s ∷ more) in
             absurd (omega (arith, size, all, parts))
 
-    -- Case: the run ends within the selected item.
+    -- If the run of the command ends within the selected item, then the run with `--only` ends with
+    -- the same error.
     aborts_there : (new : Has) (buffered : List ℕ) (out : Change ByteState)
         → ((bytes : List ℕ) (known : List Output) → has bytes known → length known ≡ k)
         → (error : Error) → Feeds c a has new buffered out (Err error)
@@ -211,7 +216,7 @@ module _ {A : Type 0} (picked_by : Request → Option ℕ) (c : Commands A) (a :
         subst (λ e. Feeds (only_command picked_by c) (Some k, a) There (HasPicked (Some k) new) buffered out (Err e))
         (sym is) (aborts_there new buffered out at error f)
 
-    -- Case: the selected item ends, and the run is finished.
+    -- If the selected item ends in the current bytes, then the run is finished.
     pub finishes : (new : Has) (buffered : List ℕ) (out : Change ByteState) (n : ℕ) → ItemsStay c a
         → ((bytes : List ℕ) (known : List Output) → has bytes known → length known ≡ k)
         → ((bytes : List ℕ) (output : List Output) → has bytes output → HaveNoExit c a bytes output)
@@ -274,7 +279,8 @@ module _ {A : Type 0} (picked_by : Request → Option ℕ) (c : Commands A) (a :
 -- ---- the input ends
 
 module _ {A : Type 0} (picked_by : Request → Option ℕ) (c : Commands A) (a : A) (k : ℕ) (has : Has) where
-  -- Case: the run ends early.
+  -- If the input ends before the selected item is complete, then the run with `--only` ends as
+  -- `EndsBefore` states.
   pub ended_before : (o : ByteState) (result : Result Bool Error) → EndsBefore c a has result
       → EndsAt (only_command picked_by c) (Some k, a) (HasPicked (Some k) has) (change o o) result
   ended_before o (Ok ok) ends = absurd ends
@@ -299,7 +305,7 @@ module _ {A : Type 0} (picked_by : Request → Option ℕ) (c : Commands A) (a :
               (inl (omega (arith, small, count), reply, is, same), writes_nothing o),
             )
 
--- The result of the command's end, if the run ends before the selected item.
+-- If the input ends before the selected item, then the run ends for a missing item.
 module _ {A : Type 0} (c : Commands A) (a : A) (has : Has) where
   pub ends_missing : (count : ℕ)
       → ((bytes : List ℕ) (output : List Output) → has bytes output → count ≡ length output)
@@ -336,7 +342,7 @@ module _ {A : Type 0} (c : Commands A) (a : A) (has : Has) where
     by bytes output (holds, (inl is, write)) = (holds, inl (exits exit, is, refl))
     by bytes output (holds, (inr memory, write)) = (holds, inr memory)
 
-  -- A sink that accepts everything does not fail.
+  -- If a sink accepts everything, then no write to the sink fails.
   pub ends_faulted : EndsAt c a has (change nowhere nowhere) (Err aborts.WriteFault)
       → EndsBefore c a has (Err (aborts.Exit out_of_memory))
   ends_faulted ends = λ bytes output there. by bytes output (ends bytes output there) where
@@ -360,7 +366,7 @@ module _ {A : Type 0} (c : Commands A) (a : A) (has : Has) where
         inl (holds, inr refl, writes_nothing nowhere)
     by bytes output (inr f) = let e = f.is in absurd (cc e)
 
--- As above, for a command that stores the number.
+-- If the command stores the number of the selected item, then its steps satisfy the specification.
 pub fed_picked : {A : Type 0} (picked_by : Request → Option ℕ) (c : Commands A) (a : A) (picked : Option ℕ) (k : ℕ)
     → picked ≡ Some k → (has new : Has) (buffered : List ℕ) (out : Change ByteState) (result : Result ℕ Error)
     → Feeds (only_command picked_by c) (Some k, a) (HasPicked (Some k) has) (HasPicked (Some k) new) buffered out result
@@ -370,7 +376,7 @@ fed_picked picked_by c a picked k is has new buffered out result fed =
 
 -- ---- all items, or one
 
--- The state before the first byte.
+-- Before the first byte, no bytes are consumed and there is no output.
 pub begins : (picked : Option ℕ) (has : Has) → has [] [] → HasPicked picked has [] []
 begins None has there = record { known = []; output_are = refl; up_to = tt; there = there }
 begins (Some k) has there = record {
@@ -428,7 +434,7 @@ module _ {A : Type 0} (picked_by : Request → Option ℕ) (c : Commands A) (a :
     goes_on = record { no_exit = own.goes_on.no_exit; no_item = own.goes_on.no_item };
   }
 
-  -- Current bytes.
+  -- If all items are selected, then the command consumes current bytes as without `--only`.
   pub fed_each : (has new : Has) (buffered : List ℕ) (out : Change ByteState)
       (result : Result ℕ Error)
       → Feeds c a has new buffered out result
@@ -470,7 +476,7 @@ module _ {A : Type 0} (picked_by : Request → Option ℕ) (c : Commands A) (a :
           write = f.write;
         })
 
-  -- The end.
+  -- If all items are selected, then the command handles the end of the input as without `--only`.
   pub ended_each : (has : Has) (out : Change ByteState) (result : Result Bool Error)
       → EndsAt c a has out result → EndsAt each (None, a) (HasPicked None has) out result
   ended_each has out result ends = λ bytes output h.

@@ -1,4 +1,4 @@
--- Commands request the same files with `--only`.
+-- With `--only`, commands request the files that they request without `--only`.
 use Rattle.std.proofs.Common.{ℕ, List, Option}
 use Rattle.base_io.specs.State.{FilesState, Change}
 use Rattle.cli_spec.specs.Outcome.{Request}

@@ -1,4 +1,4 @@
--- The outputs if one item is selected, and the outputs without the option.
+-- The outputs if one item is selected, compared with the outputs without the option.
 use Rattle.std.proofs.Common.{◌≡◌, ◌+◌, ◌<◌, ◌≤◌, ℕ, zero, suc, Bool, List, [], ◌∷◌, ◌++◌, Option, Some, inl, inr, refl, sym, ap, ◌∙◌, subst, length, length-append, append_assoc, append-nil, arith}
 use Rattle.cli_spec.specs.Outcome.{Request, Output, nothing_output}
 use Rattle.run_spec.specs.runs.Commands.{Item, Commands, Split, AllPrint, OutputsFirst, GoesOn}
@@ -6,7 +6,7 @@ use Rattle.cli_spec.specs.declared.exit.Exit.{Exit}
 use Rattle.opt_skip_only.specs.only_spec.OnlyCommand.{IsKnown, ExitsBy, only_command}
 use Rattle.opt_skip_only.specs.only_spec.Known.{output_of_one}
 
--- One more item before the selected one, and the selected one.
+-- If one more item comes before the selected item, then the outputs grow by an empty output.
 pub output_before : (k : ℕ) (known : List Output) (output : Output) → length known < k
     → output_of_one k (known ++ output ∷ []) ≡ output_of_one k known ++ nothing_output ∷ []
 output_before zero [] output less = absurd (omega (arith, less))
@@ -36,8 +36,8 @@ module _ {A : Type 0} (c : Commands A) (k : ℕ) (a : A) where
       let count = known_count items ok known in omega (arith, count, few)
 
 module _ {A : Type 0} (c : Commands A) (a : A) where
-  -- The outputs for items are the outputs for all but the last item, followed by the output for the
-  -- last one.
+  -- The outputs for items are the outputs for all items but the last, followed by the output for
+  -- the last item.
   pub print_prefix : (before items : List Item) (item : Item) (known : List Output)
       → AllPrint c a before (items ++ item ∷ []) known
       → (earlier : List Output) × AllPrint c a before items earlier
@@ -78,7 +78,7 @@ module _ {A : Type 0} (c : Commands A) (a : A) where
         subst (λ b. c.Outputs a b n.1 last) (append_assoc before (i ∷ []) n.0) n.4,
       )
 
-  -- The last item is the selected one.
+  -- If there are `k + 1` outputs for the items, then the last item is the selected one.
   pub is_known : (k : ℕ) (items : List Item) (known : List Output) (last : Output) → length known ≡ k
       → AllPrint c a [] items (known ++ last ∷ []) → IsKnown c k a items last.ok
   is_known k items known last size print =
@@ -92,7 +92,7 @@ module _ {A : Type 0} (c : Commands A) (a : A) where
         ok_is = refl;
       }
 
-  -- There are as many items as outputs.
+  -- If items have outputs, then there are as many items as outputs.
   pub print_count : (before items : List Item) (known : List Output) → AllPrint c a before items known
       → length items ≡ length known
   print_count before [] [] print = refl
@@ -144,7 +144,8 @@ module _ {A : Type 0} (picked_by : Request → Option ℕ) (c : Commands A) (a :
           all_print = print_of_one k [] items known (omega arith) few first.all_print;
         }
 
-    -- Up to the selected item, there are no further exit reasons and no further items.
+    -- If the run of the command continues up to the selected item, then the run with `--only`
+    -- continues.
     pub on_up_to : (items : List Item) (rest : List ℕ) → length items ≤ k → GoesOn c a items rest
         → GoesOn one (Some k, a) items rest
     on_up_to items rest few on = record {
@@ -163,7 +164,7 @@ module _ {A : Type 0} (picked_by : Request → Option ℕ) (c : Commands A) (a :
     split_back before bytes (item ∷ items) rest (more, (few, is), split) =
         (more, is, split_back (before ++ item ∷ []) more items rest split)
 
-    -- The outputs without the option.
+    -- The outputs with `--only`, computed from outputs without `--only`.
     abbrev pub Would : ℕ → List Item → List Item → List Output → Type 0
     Would left before items output =
         (known : List Output) × AllPrint c a before items known × (output ≡ output_of_one left known)

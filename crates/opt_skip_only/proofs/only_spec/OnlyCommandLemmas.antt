@@ -12,7 +12,7 @@ use Rattle.run_spec.proofs.command_sum.BesideLemmas.{lawful_beside, turns_beside
 use Rattle.opt_skip_only.proofs.only_spec.KnownLemmas.{known_past}
 use Rattle.opt_skip_only.specs.only_spec.OnlyCommand.{missing, FirstBy, OutputsBy, ExitsBy, EndsBy, only_command}
 
--- Lists with the same last item.
+-- The empty list of items does not end with an item.
 none_last : (items : List Item) (item : Item) → ◌≡◌ {A = List Item} [] (items ++ item ∷ []) → ⊥
 none_last [] item e = cc e
 none_last (other ∷ items) item e = cc e

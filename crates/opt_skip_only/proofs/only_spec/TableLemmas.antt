@@ -1,4 +1,4 @@
--- If the tables of commands are exact, then the tables with `--only` are.
+-- If the tables of commands are exact, then the tables of the commands with `--only` are exact.
 use Rattle.std.proofs.Common.{◌≡◌, ◌⊎◌, ℕ, List, [], ◌∷◌, ◌++◌, Option, Some, None, inl, inr, refl, sym, ap, ◌∙◌, subst, length, length-append, arith}
 use Rattle.std.specs.Prelude.{if◌then◌else◌}
 use Rattle.cli_spec.specs.declared.status.Status.{Status}
@@ -40,7 +40,7 @@ module _ {A B : Type 0} (c : Commands A) (d : Commands B) (a : A) (b : B) (same 
 
 -- ---- one item
 
--- The status of an exit reason does not depend on the outputs before it.
+-- The status of the reply for a missing item does not depend on the outputs before the reply.
 missing_agree : (output : List Output) (n : ℕ) (reply : Reply)
     → (ending_of (replies output (missing n reply))).status
     ≡ (ending_of (replies [] (missing n reply))).status

@@ -1,6 +1,7 @@
 -- The state of a command that skips the first bytes of its input.
-use Rattle.std.proofs.Common.{◌≡◌, ◌+◌, ◌-◌, ◌<◌, ◌≤◌, ℕ, zero, suc, Bool, true, false, List, [], ◌∷◌, ◌++◌, Result, Ok, Err, inl, inr, refl, sym, ap, ◌∙◌, subst, length, take, drop, get_or, length-append, append_assoc, append-nil, arith}
-use Rattle.std.specs.Prelude.{IsErrAnd}
+use Rattle.std.proofs.Common.{◌≡◌, ◌+◌, ◌-◌, ◌<◌, ◌≤◌, ℕ, zero, suc, Bool, true, false, List, [], ◌∷◌, ◌++◌, Result, Ok, Err, inl, inr, refl, sym, ap, ◌∙◌, subst, length, take, drop, get_or, length-append, append_assoc, append-nil, length-drop, arith}
+use Rattle.std.proofs.Math.Seq.{take-add}
+use Rattle.std.specs.Prelude.{IsErrAnd, Some, if◌then◌else◌}
 use Rattle.cli_spec.specs.Outcome.{Request, Output, outputs, exits, texts_of, all_ok}
 use Rattle.cli_spec.specs.declared.exit.Exit.TheVariants.{Short as short_input, Finished as finished}
 use Rattle.base_io.specs.Sink.{Writes, WritesPart}
@@ -15,6 +16,9 @@ use Rattle.opt_skip_only.specs.skip_spec.Skipping.{Passed, passed_output, bytes_
 use Rattle.opt_skip_only.proofs.skip_spec.PassedLemmas.{drop_first, byte_items, bytes_ok, bytes_output_more, byte_count, join_split, join_print, within_split, within_print, within_more, goes_on_after, goes_on_within}
 use Rattle.opt_skip_only.proofs.skip_spec.SkippingLemmas.{byte_stays}
 use Rattle.opt_skip_only.proofs.skip_spec.TableLemmas.{all_ok_append}
+use Rattle.run_loop.specs.declared.work.passed.PassedBytes.{PassedBytes}
+use Rattle.run_loop.specs.work.Gathered.{GathersTo, GathersSome, Passes}
+use Rattle.run_loop.proofs.work.GatherLemmas.{some_of_one, gathers_each}
 use Rattle.run_loop.specs.work.Works.{Has, ItemsStay, AbortsIn, FinishesIn, Aborts, Feeds, WritesLast, EndsAt}
 use Rattle.opt_skip_only.specs.skip.SkipCommand.{HasPassed}
 
@@ -45,7 +49,7 @@ module _ {A : Type 0} (passed_by : Request → Passed) (c : Commands A) (p : Pas
     goes_on = goes_on_after passed_by c p a (byte_items passed) h.items h.rest (byte_count passed ∙ size) h.goes_on;
   }
 
-  -- The items of the command follow the skipped bytes.
+  -- If all bytes to skip were skipped, then there are at least as many items as bytes to skip.
   few_after : (passed : List ℕ) (items : List Item) → length passed ≡ p.bytes → p.bytes ≤ length (byte_items passed ++ items)
   few_after passed items size =
       let count = byte_count passed in let parts = length-append (byte_items passed) items in omega (arith, size, count, parts)
@@ -150,7 +154,7 @@ module _ {A : Type 0} (passed_by : Request → Passed) (c : Commands A) (p : Pas
     size_of : (bytes : List ℕ) (output : List Output) (h : There 0 bytes output) → length h.passed ≡ p.bytes
     size_of bytes output h = let counted = h.counted in omega (arith, counted)
 
-    -- Only skipped bytes were consumed.
+    -- If bytes remain to be skipped, then only skipped bytes were consumed.
     only_bytes : (left : ℕ) (bytes : List ℕ) (output : List Output) → 0 < left → (h : There left bytes output)
         → (bytes ≡ h.passed) × (output ≡ bytes_output p.copied h.passed)
     only_bytes left bytes output some h =
@@ -204,7 +208,7 @@ module _ {A : Type 0} (passed_by : Request → Passed) (c : Commands A) (p : Pas
         (subst (λ s. Aborts after (p, a) (h.passed ++ h.rest) buffered s out error) (sym h.output_are)
         (aborts_so_after buffered out h.passed h.rest h.known (size_of bytes output h) error (f h.rest h.known h.there)))
 
-    -- Case: no byte remains to be skipped.
+    -- If no byte remains to be skipped, then the current bytes are consumed as without `--skip`.
     pub fed_at : (left : ℕ) → left ≡ 0 → (new : Has) (buffered : List ℕ) (out : Change ByteState) (result : Result ℕ Error)
         → Feeds c a has new buffered out result
         → Feeds after (p, a) (There left) (HasPassed p new left) buffered out result
@@ -212,40 +216,114 @@ module _ {A : Type 0} (passed_by : Request → Passed) (c : Commands A) (p : Pas
         subst (λ k. Feeds after (p, a) (There k) (HasPassed p new k) buffered out result) (sym none)
         (fed new buffered out result f)
 
-    -- Case: one more byte is skipped.
-    pub stepped : (left : ℕ) (buffered : List ℕ) (out : Change ByteState) → 0 < left → 0 < length buffered
-        → Writes out (passed_output p.copied (text_item (get_or buffered 0 0 ∷ []))).text
-        → Feeds after (p, a) (There left) (There (left - 1)) buffered out (Ok 1)
-    stepped left buffered out some more write = (omega arith, omega (arith, more), λ bytes output h. next bytes output h) where
-      b : ℕ
-      b = get_or buffered 0 0
+    -- The output for the first of the current bytes.
+    abbrev first_output : List ℕ → Output
+    first_output buffered = passed_output p.copied (text_item (get_or buffered 0 0 ∷ []))
 
-      next : (bytes : List ℕ) (output : List Output) → There left bytes output
-          → (more : List Output) × (length more ≤ 1) × There (left - 1) (bytes ++ take 1 buffered) (output ++ more)
-          × Writes out (texts_of more)
-      next bytes output h =
-          let only = only_bytes left bytes output some h in
-          let u = h.untaken some in
-          let along = length-append h.passed (b ∷ []) in
-          let counted = h.counted in (
-            passed_output p.copied (text_item (b ∷ [])) ∷ [],
+    -- If one more byte is skipped, then the state is that after the byte.
+    step : (left : ℕ) (buffered : List ℕ) → 0 < left → 0 < length buffered
+        → (bytes : List ℕ) (output : List Output) → There left bytes output
+        → There (left - 1) (bytes ++ take 1 buffered) (output ++ first_output buffered ∷ [])
+    step left buffered some more bytes output h =
+        let b : ℕ = get_or buffered 0 0 in
+        let only = only_bytes left bytes output some h in
+        let u = h.untaken some in
+        let along = length-append h.passed (b ∷ []) in
+        let counted = h.counted in
+        record {
+          passed = h.passed ++ b ∷ [];
+          rest = [];
+          known = [];
+          bytes_are = ap (λ x. x ++ take 1 buffered) only.0
+              ∙ (ap (λ x. h.passed ++ x) (prefix_byte buffered more).2 ∙ sym (append-nil (h.passed ++ b ∷ [])));
+          output_are = ap (λ x. x ++ passed_output p.copied (text_item (b ∷ [])) ∷ []) only.1
+              ∙ (sym (bytes_output_more p.copied h.passed b) ∙ sym (append-nil (bytes_output p.copied (h.passed ++ b ∷ []))));
+          counted = omega (arith, along, counted, some);
+          untaken = λ some. (refl, refl);
+          there = subst (λ r. has r []) u.0 (subst (λ t. has h.rest t) u.1 h.there);
+        }
+
+    -- If one more byte is skipped and its output is written, then one byte is consumed.
+    pub stepped : (left : ℕ) (buffered : List ℕ) (out : Change ByteState) → 0 < left → 0 < length buffered
+        → Writes out (first_output buffered).text
+        → Feeds after (p, a) (There left) (There (left - 1)) buffered out (Ok 1)
+    stepped left buffered out some more write = (
+      omega arith,
+      omega (arith, more),
+      λ bytes output h. (
+        first_output buffered ∷ [],
+        omega arith,
+        step left buffered some more bytes output h,
+        subst (λ t. Writes out t) (sym (append-nil (first_output buffered).text)) write,
+      ),
+    )
+
+    -- Several bytes are skipped at once.
+    module _ (inner : (bytes : List ℕ) (output : List Output) → has bytes output → HaveNoExit c a bytes output)
+        (inner_stay : ItemsStay c a) (left : ℕ) (buffered : List ℕ) where
+      -- The output for the first `k` current bytes.
+      abbrev text_of : Bool → ℕ → List ℕ
+      text_of copied k = if copied then take k buffered else []
+
+      no_text : (copied : Bool) → text_of copied 0 ≡ []
+      no_text true = refl
+      no_text false = refl
+
+      text_more : (copied : Bool) (k : ℕ) → 0 < length (drop k buffered)
+          → text_of copied (k + 1)
+          ≡ text_of copied k ++ texts_of (passed_output copied (text_item (get_or (drop k buffered) 0 0 ∷ [])) ∷ [])
+      text_more true k some =
+          take-add k 1 buffered ∙ ap (λ t. take k buffered ++ t) (prefix_byte (drop k buffered) some).2
+      text_more false k some = refl
+
+      each : (n : ℕ) → n ≤ left → n ≤ length buffered → (k : ℕ) → k < n
+          → GathersSome after (p, a) (There (left - k)) (There (left - (k + 1))) (drop k buffered)
+          (text_of p.copied k) (text_of p.copied (k + 1)) (Ok 1)
+      each n few fits k less =
+          let size = length-drop k buffered in
+          let some : 0 < length (drop k buffered) = omega (arith, size, fits, less) in
+          let positive : 0 < left - k = omega (arith, few, less) in
+          let next : (left - k) - 1 ≡ left - (k + 1) = omega (arith, few, less) in
+          some_of_one after (p, a) (stay inner_stay) (There (left - k)) (There (left - (k + 1))) (drop k buffered)
+          (text_of p.copied k) (text_of p.copied (k + 1)) 1 (
             omega arith,
-            record {
-              passed = h.passed ++ b ∷ [];
-              rest = [];
-              known = [];
-              bytes_are = ap (λ x. x ++ take 1 buffered) only.0
-                  ∙ (ap (λ x. h.passed ++ x) (prefix_byte buffered more).2 ∙ sym (append-nil (h.passed ++ b ∷ [])));
-              output_are = ap (λ x. x ++ passed_output p.copied (text_item (b ∷ [])) ∷ []) only.1
-                  ∙ (sym (bytes_output_more p.copied h.passed b) ∙ sym (append-nil (bytes_output p.copied (h.passed ++ b ∷ []))));
-              counted = omega (arith, along, counted, some);
-              untaken = λ some. (refl, refl);
-              there = subst (λ r. has r []) u.0 (subst (λ t. has h.rest t) u.1 h.there);
-            },
-            subst (λ t. Writes out t) (sym (append-nil (passed_output p.copied (text_item (b ∷ []))).text)) write,
+            omega (arith, some),
+            λ bytes output h.
+                let over : There (left - (k + 1)) (bytes ++ take 1 (drop k buffered)) (output ++ first_output (drop k buffered) ∷ []) =
+                subst (λ m. There m (bytes ++ take 1 (drop k buffered)) (output ++ first_output (drop k buffered) ∷ [])) next
+                (step (left - k) (drop k buffered) positive some bytes output h) in (
+                  holds inner (left - k) bytes output h,
+                  first_output (drop k buffered) ∷ [],
+                  omega arith,
+                  over,
+                  holds inner (left - (k + 1)) (bytes ++ take 1 (drop k buffered)) (output ++ first_output (drop k buffered) ∷ []) over,
+                  text_more p.copied k some,
+                ),
           )
 
-    -- Case: the byte could not be written.
+      pub skips : (n : ℕ) → n ≤ left → n ≤ length buffered
+          → (bytes : List ℕ) (output : List Output) → There left bytes output
+          → GathersTo after (p, a) (There (left - n)) buffered n (text_of p.copied n) bytes output
+      skips n few fits bytes output h =
+          let none : left ≡ left - 0 = omega arith in
+          gathers_each after (p, a) (λ k. There (left - k)) buffered (λ k. text_of p.copied k) (no_text p.copied) n
+          (each n few fits) bytes output (subst (λ m. There m bytes output) none h)
+
+      pub passes : (n : ℕ) (passed : PassedBytes) → passed.bytes ≡ n → passed.copied ≡ p.copied
+          → 0 < n → n ≤ left → n ≤ length buffered
+          → Passes after (p, a) (There left) (There (left - n)) buffered (Some passed)
+      passes n passed number copied some few fits =
+          let at_n : n ≡ passed.bytes = sym number in (
+            subst (λ k. 0 < k) at_n some,
+            subst (λ k. k ≤ length buffered) at_n fits,
+            λ bytes output h.
+                subst (λ w. GathersTo after (p, a) (There (left - n)) buffered passed.bytes (text_of w passed.bytes) bytes output)
+                (sym copied)
+                (subst (λ k. GathersTo after (p, a) (There (left - n)) buffered k (text_of p.copied k) bytes output) at_n
+                (skips n few fits bytes output h)),
+          )
+
+    -- If the skipped byte could not be written, then the run ends with a write fault.
     pub step_fault : (left : ℕ) (buffered : List ℕ) (out : Change ByteState) → 0 < left → 0 < length buffered
         → p.copied ≡ true → WritesPart out (get_or buffered 0 0 ∷ [])
         → (bytes : List ℕ) (output : List Output) → There left bytes output → AbortsIn after (p, a) bytes buffered output out aborts.WriteFault
@@ -315,7 +393,7 @@ module _ {A : Type 0} (passed_by : Request → Passed) (c : Commands A) (p : Pas
           (inl (inl (few, ap (λ k. exits (short_input k)) taken)), writes_nothing out),
         ))
 
--- The state before the first byte.
+-- Before the first byte, no byte is skipped and no byte is consumed.
 pub begins : (p : Passed) (has : Has) → has [] [] → HasPassed p has p.bytes [] []
 begins p has there = record {
   passed = [];
@@ -332,7 +410,7 @@ pub some_left : (n : ℕ) → (n ≡ 0 → ⊥) → 0 < n
 some_left zero other = absurd (other refl)
 some_left (suc n) other = omega arith
 
--- The run ends because writing to out failed.
+-- If a step fails because writing to `out` failed, then the run ends with a write fault.
 pub feeds_fault : {A : Type 0} (c : Commands A) (a : A) (before new : Has) (buffered : List ℕ) (out : Change ByteState) (result : Result ℕ Error)
     → IsErrAnd result (λ h. h ≡ aborts.WriteFault)
     → ((bytes : List ℕ) (output : List Output) → before bytes output → AbortsIn c a bytes buffered output out aborts.WriteFault)
@@ -341,7 +419,7 @@ feeds_fault c a before new buffered out (Ok n) err error = absurd err
 feeds_fault c a before new buffered out (Err h) err error =
     λ bytes output there. inl (subst (λ h. AbortsIn c a bytes buffered output out h) (sym err) (error bytes output there))
 
--- The output for a skipped byte.
+-- If bytes are copied and a skipped byte is written, then the output for the byte is written.
 pub writes_byte : (copied : Bool) (b : ℕ) (out : Change ByteState) → copied ≡ true → Writes out (b ∷ [])
     → Writes out (passed_output copied (text_item (b ∷ []))).text
 writes_byte true b out is write = write

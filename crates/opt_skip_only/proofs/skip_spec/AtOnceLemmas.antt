@@ -17,7 +17,8 @@ module _ {A : Type 0} (passed_by : Request → Passed) (c : Commands A) where
     abbrev n : ℕ
     n = over.bytes
 
-    -- No item is skipped.
+    -- If the number of bytes to skip is 0, then each list of items has at least that number of
+    -- items.
     past : (items : List Item) → n ≤ length items
     past items = omega (arith, none)
 

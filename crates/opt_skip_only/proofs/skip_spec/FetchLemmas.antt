@@ -1,4 +1,4 @@
--- Commands request the same files with `--skip`.
+-- With `--skip`, commands request the files that they request without `--skip`.
 use Rattle.std.proofs.Common.{ℕ, List}
 use Rattle.base_io.specs.State.{FilesState, Change}
 use Rattle.cli_spec.specs.Outcome.{Request}

@@ -1,5 +1,5 @@
--- The items of an input whose first bytes are skipped: these bytes, followed by the items after
--- them.
+-- The items of an input whose first bytes are skipped: the skipped bytes, and then the items of the
+-- bytes after the skipped bytes.
 use Rattle.std.proofs.Common.{◌≡◌, ◌+◌, ◌<◌, ◌≤◌, ℕ, zero, suc, Bool, true, false, List, [], ◌∷◌, ◌++◌, inl, inr, refl, sym, ap, ◌∙◌, subst, length, drop, length-append, arith}
 use Rattle.std.proofs.Math.Seq.{drop-append_seam}
 use Rattle.std.proofs.lemmas.List.{drop-append-le}
@@ -104,7 +104,7 @@ module _ {A : Type 0} (passed_by : Request → Passed) (c : Commands A) (over : 
 
   -- ---- some bytes remain to be skipped
 
-  -- `j` bytes, followed by items of the commands.
+  -- The bytes are `j` skipped bytes, followed by items of the commands.
   pub record Splits (j : ℕ) (bytes : List ℕ) (items : List Item) (output : List Output) (rest : List ℕ) : Type 0 where
     pub passed : List ℕ
     pub left : List ℕ
@@ -196,7 +196,7 @@ module _ {A : Type 0} (passed_by : Request → Passed) (c : Commands A) (over : 
         join_print passed (before ++ text_item (b ∷ []) ∷ []) items output (omega (arith, along, size)) print,
       )
 
-  -- Only the first bytes, not all that are to be skipped.
+  -- If at most the bytes to skip were read, then the bytes are skipped bytes, each an item.
   pub within_split : (passed : List ℕ) (before : List Item) → length passed + length before ≤ n
       → Split after (over, a) before passed (byte_items passed) []
   within_split [] before few = refl
@@ -226,7 +226,7 @@ module _ {A : Type 0} (passed_by : Request → Passed) (c : Commands A) (over : 
         within_more passed more (before ++ text_item (b ∷ []) ∷ []) (omega (arith, along, few)),
       )
 
-  -- Before all are skipped, the items are the bytes so far.
+  -- If the items and the earlier items are at most the bytes to skip, then each item is one byte.
   pub within_size : (before : List Item) (bytes : List ℕ) (items : List Item) (rest : List ℕ)
       → length items + length before ≤ n → Split after (over, a) before bytes items rest
       → length bytes ≡ length items + length rest

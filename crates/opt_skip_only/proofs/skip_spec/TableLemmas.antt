@@ -1,4 +1,4 @@
--- If the tables of commands are exact, then the tables with `--skip` are.
+-- If the tables of commands are exact, then the tables of the commands with `--skip` are exact.
 use Rattle.std.proofs.Common.{◌≡◌, ◌+◌, ◌<◌, ◌≤◌, ℕ, Bool, true, false, List, [], ◌∷◌, ◌++◌, inl, inr, refl, sym, ap, ◌∙◌, subst, length, take, drop, length-append, arith, append_assoc}
 use Rattle.std.proofs.lemmas.List.{take-append-drop, length-take-le}
 use Rattle.std.proofs.lemmas.List.Elements.{All-drop}
@@ -45,7 +45,7 @@ module _ {A : Type 0} (passed_by : Request → Passed) (c : Commands A) (over : 
     no_item = λ item more is. on.no_item item more (inr (few, is));
   }
 
-  -- The first `n` of all bytes.
+  -- If there are at least `n` bytes, then the first `n` bytes have the length `n`.
   all_first : (bytes : List ℕ) → n ≤ length bytes → length (take n bytes) ≡ n
   all_first bytes few = length-take-le n bytes few
 
@@ -99,7 +99,7 @@ module _ {A : Type 0} (passed_by : Request → Passed) (c : Commands A) (over : 
 
   -- ---- an end
 
-  -- After all skipped bytes, the end is that of the commands.
+  -- If all bytes to skip were skipped, then the end of the input is the end for the commands.
   pub end_after : (bytes : List ℕ) (output : List Output) (last : Reply) (h : HoldEnd after (over, a) bytes output last)
       → n ≤ length h.items → c.Ends a (drop n h.items) h.rest last
       → (n ≤ length bytes) × ((later : List Output) × HoldEnd c a (drop n bytes) later last
@@ -142,7 +142,8 @@ module _ {A : Type 0} (passed_by : Request → Passed) (c : Commands A) (over : 
         );
       }
 
-  -- Case: the input has fewer bytes than are to be skipped.
+  -- If the input ends while bytes remain to be skipped, then the input has fewer bytes than the
+  -- option skips.
   pub short_after : (bytes : List ℕ) (output : List Output) (last : Reply) (h : HoldEnd after (over, a) bytes output last)
       → length h.items < n → length bytes < n
   short_after bytes output last h less = none h.rest refl where

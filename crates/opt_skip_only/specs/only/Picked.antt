@@ -16,12 +16,13 @@ abbrev pub output_by : Option ℕ → List Output → List Output
 output_by None known = known
 output_by (Some k) known = output_of_one k known
 
--- The selected item is not complete yet.
+-- The selected item is not complete yet, because at most `k` outputs exist.
 abbrev pub AreUpTo : Option ℕ → List Output → Type 0
 AreUpTo None known = Unit {0}
 AreUpTo (Some k) known = length known ≤ k
 
--- The command consumed these bytes, and `known` would be the outputs for their items.
+-- The command consumed the bytes `bytes`, and `known` would be the outputs for the items of the
+-- bytes.
 pub record HasPicked (picked : Option ℕ) (has : Has) (bytes : List ℕ) (output : List Output)
     : Type 0 where
   pub known : List Output

@@ -2,7 +2,8 @@
 use Rattle.std.specs.Prelude.{ℕ, zero, suc, List, [], ◌∷◌}
 use Rattle.cli_spec.specs.Outcome.{Output, nothing_output}
 
--- The outputs with `--only`, given the outputs without it: the first `k` become empty.
+-- The outputs with `--only`, given the outputs without `--only`. The first `k` outputs become
+-- empty.
 abbrev pub output_of_one : ℕ → List Output → List Output
 output_of_one k [] = []
 output_of_one zero (output ∷ known) = output ∷ known

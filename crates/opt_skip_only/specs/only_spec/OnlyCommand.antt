@@ -1,7 +1,7 @@
--- Commands with output for only one item of their input, the selected item. They consume the items
--- before it as usual, without output. With the last byte of the selected item the run is finished,
--- whatever follows, and requests no more input. The arguments determine the item, so a command set
--- does not need to handle the option.
+-- Commands with output for only one item of their input, the selected item. The commands consume
+-- the items before the selected item as usual, without output. After the last byte of the selected
+-- item, the run is finished, whatever bytes follow, and requests no more input. The arguments
+-- determine the selected item, which is why a command set does not need to handle the option.
 use Rattle.std.specs.Prelude.{ℕ, ◌<◌, ◌≤◌, ◌≡◌, ◌⊎◌, ◌∷◌, ◌++◌, Bool, List, [], length, Option}
 use Rattle.std.specs.Prelude.{Some, None}
 use Rattle.cli_spec.specs.Outcome.{Request, Asks, Output, nothing_output, Reply, outputs, exits}
@@ -15,20 +15,21 @@ use Rattle.run_spec.specs.runs.RunSpec.{RunSpec}
 use Rattle.run_spec.specs.command_sum.Beside.{Finds}
 
 -- The final reply if the input ends after `n` items, and the selected item is not among them. If
--- the command would have a final output, then the reply is a truncated value of no bytes.
+-- the command would have a final output, the reply is a truncated value of no bytes.
 abbrev pub missing : ℕ → Reply → Reply
 missing n (outputs output) = exits (value n (truncated_text 0))
 missing n (exits exit) = exits exit
 
 module _ {A : Type 0} (c : Commands A) where
-  -- Up to the selected item the items are those of the command. After it there is no item.
+  -- Up to the selected item, the items are those of the command. After the selected item, there is
+  -- no item.
   abbrev pub FirstBy : Option ℕ → A → List Item → List ℕ → Item → List ℕ → Type 0
   FirstBy None a items bytes item more = c.IsFirst a items bytes item more
   FirstBy (Some k) a items bytes item more =
       (length items ≤ k) × c.IsFirst a items bytes item more
 
-  -- The items before the selected one would have an output for the command, and have an empty one
-  -- here.
+  -- The output of an item with `--only`. If an item before the selected item has an output without
+  -- `--only`, then the item has the empty output with `--only`.
   abbrev pub OutputsBy : Option ℕ → A → List Item → Item → Output → Type 0
   OutputsBy None a items item output = c.Outputs a items item output
   OutputsBy (Some k) a items item output =
@@ -36,7 +37,8 @@ module _ {A : Type 0} (c : Commands A) where
       × (output ≡ nothing_output))
       ⊎ ((length items ≡ k) × c.Outputs a items item output)
 
-  -- The last of these items is the selected one, and `ok` says whether it is without errors.
+  -- The last of the items `items` is the selected item, and `ok` is true if the output for the
+  -- selected item is without errors.
   pub record IsKnown (k : ℕ) (a : A) (items : List Item) (ok : Bool) : Type 0 where
     pub earlier : List Item
     pub item : Item
@@ -46,7 +48,7 @@ module _ {A : Type 0} (c : Commands A) where
     pub outputs : c.Outputs a earlier item output
     pub ok_is : output.ok ≡ ok
 
-  -- Up to the selected item the run ends where that of the command ends. After the selected item
+  -- Up to the selected item, the run ends where the command ends the run. After the selected item,
   -- the run is finished, whatever bytes follow.
   abbrev pub ExitsBy : Option ℕ → A → List Item → List ℕ → Exit → Type 0
   ExitsBy None a items bytes exit = c.Exits a items bytes exit
@@ -54,7 +56,8 @@ module _ {A : Type 0} (c : Commands A) where
       ((length items ≤ k) × c.Exits a items bytes exit)
       ⊎ ((ok : Bool) × IsKnown k a items ok × (exit ≡ finished ok))
 
-  -- If the input ends before the selected item, or inside it, then the final reply reports it.
+  -- If the input ends before the selected item, or inside the selected item, the final reply
+  -- reports the end.
   abbrev pub EndsBy : Option ℕ → A → List Item → List ℕ → Reply → Type 0
   EndsBy None a items bytes last = c.Ends a items bytes last
   EndsBy (Some k) a items bytes last =
@@ -81,12 +84,13 @@ module _ {A : Type 0} (picked_by : Request → Option ℕ) (c : Commands A) wher
 
   -- ---- arguments that select all items
 
-  -- For such arguments, an account by the commands is an account with `--only`.
+  -- If the arguments select all items, then an account by the commands is an account with `--only`.
   abbrev pub HaveAccountsOfEach : Type 0
   HaveAccountsOfEach = (arguments : List (List ℕ)) (call : Call) → OnlyNothing picked_by arguments
       → Account c arguments call → Account only_command arguments call
 
-  -- For such arguments, the specification with `--only` implies that of the commands.
+  -- If the arguments select all items, then the specification with `--only` implies the
+  -- specification of the commands.
   abbrev pub SpecifyOfEach : Type 0
   SpecifyOfEach = (arguments : List (List ℕ)) (call : Call) → OnlyNothing picked_by arguments
       → RunSpec only_command arguments call → RunSpec c arguments call

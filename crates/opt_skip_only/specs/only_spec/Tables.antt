@@ -1,6 +1,10 @@
--- Exit status specification with `--only`: 0 means that the selected item is without errors, and 1
--- that it has an error, whatever follows it. 4 also means that the input ends before the item. Any
--- other status is that of an exit reason before the item or at its end.
+-- Exit status specification with `--only`, for a selected item:
+--
+-- - 0: The selected item is without errors, whatever follows the item.
+-- - 1: The selected item has an error, whatever follows the item.
+-- - 4: The input ends before the selected item is complete.
+-- - The status of an exit reason: the run of the command ends before the selected item or within
+--   it.
 use Rattle.std.specs.Prelude.{ℕ, ◌≤◌, ◌≡◌, ◌⊎◌, List, [], ◌∷◌, ◌++◌, length, Option, Some, None}
 use Rattle.std.specs.Prelude.{if◌then◌else◌}
 use Rattle.cli_spec.specs.declared.status.Status.{Status}
@@ -13,14 +17,14 @@ use Rattle.run_spec.specs.exit_causes.Causes.{Tables}
 use Rattle.opt_skip_only.specs.only_spec.OnlyCommand.{missing}
 
 module _ {A : Type 0} (c : Commands A) (k : ℕ) (a : A) (bytes : List ℕ) (status : Status) where
-  -- The run of the command ends before or within the selected item.
+  -- The run of the command ends before the selected item or inside the selected item.
   pub record ExitUpTo : Type 0 where
     pub exit : Exit
     pub is : status_of exit ≡ status
     pub holds : HaveExit c a bytes exit
     pub few : length holds.items ≤ k
 
-  -- The selected item exists, and the command's output for it determines the status.
+  -- The selected item exists, and the command's output for the selected item determines the status.
   pub record HaveItem : Type 0 where
     pub items : List Item
     pub earlier : List Output
@@ -30,7 +34,7 @@ module _ {A : Type 0} (c : Commands A) (k : ℕ) (a : A) (bytes : List ℕ) (sta
     pub number : length earlier ≡ k
     pub is : (if output.ok then AllOk else No) ≡ status
 
-  -- The input ends before the selected item, or inside it.
+  -- The input ends before the selected item, or inside the selected item.
   pub record EndBefore : Type 0 where
     pub output : List Output
     pub reply : Reply

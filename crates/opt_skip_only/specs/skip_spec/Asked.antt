@@ -1,4 +1,4 @@
--- The option `--skip`: the number of bytes to skip. `edit` writes these bytes unchanged.
+-- Whether the command of the request writes the skipped bytes. Only `edit` does.
 use Rattle.std.specs.Prelude.{Bool, true, false}
 use Rattle.cli_spec.specs.CommandLine.{reading_of}
 use Rattle.cli_spec.specs.Outcome.{Request, edit}

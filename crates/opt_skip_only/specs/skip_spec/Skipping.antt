@@ -1,6 +1,6 @@
--- Commands that skip the first bytes of their input. Each skipped byte is an item. Its output is
--- empty, or it is the byte itself. The command starts after these bytes. The arguments determine
--- their number, so a command set does not need to handle the option.
+-- Commands that skip the first bytes of their input. Each skipped byte is an item, whose output is
+-- empty or the byte itself. The command starts after the skipped bytes. The arguments determine the
+-- number of skipped bytes, which is why a command set does not need to handle the option.
 use Rattle.std.specs.Prelude.{ℕ, ◌<◌, ◌≤◌, ◌≡◌, ◌⊎◌, Bool, true, false, List, [], ◌∷◌, length, drop}
 use Rattle.cli_spec.specs.Outcome.{Request, Asks, Output, nothing_output, Reply, exits}
 use Rattle.cli_spec.specs.declared.exit.Exit.{Exit}
@@ -11,12 +11,12 @@ use Rattle.run_spec.specs.runs.Commands.{Item, value as value_item, text as text
 use Rattle.run_spec.specs.runs.RunSpec.{RunSpec}
 use Rattle.run_spec.specs.command_sum.Beside.{Finds}
 
--- The number of bytes to skip, and whether they are written unchanged.
+-- The number of bytes to skip, and whether the skipped bytes are written unchanged.
 pub record Passed : Type 0 where
   pub bytes : ℕ
   pub copied : Bool
 
--- The bytes are one byte, which is an item, followed by the rest.
+-- The bytes are one byte, which is an item, followed by the bytes `more`.
 pub record IsByte (bytes : List ℕ) (item : Item) (more : List ℕ) : Type 0 where
   pub byte : ℕ
   pub bytes_are : bytes ≡ byte ∷ more
@@ -35,7 +35,7 @@ bytes_output copied (b ∷ bytes) =
     passed_output copied (text_item (b ∷ [])) ∷ bytes_output copied bytes
 
 module _ {A : Type 0} (c : Commands A) where
-  -- Either a byte is skipped, or all bytes to skip precede.
+  -- The next item is a skipped byte, or an item of the command after all bytes to skip.
   abbrev pub IsFirst : Passed × A → List Item → List ℕ → Item → List ℕ → Type 0
   IsFirst act items bytes item more =
       ((length items < act.0.bytes) × IsByte bytes item more)
@@ -48,13 +48,13 @@ module _ {A : Type 0} (c : Commands A) where
       ⊎ ((act.0.bytes ≤ length items)
       × c.Outputs act.1 (drop act.0.bytes items) item output)
 
-  -- No skipped byte ends the run.
+  -- The command ends the run after all bytes to skip, because no skipped byte ends the run.
   abbrev pub Exits : Passed × A → List Item → List ℕ → Exit → Type 0
   Exits act items bytes exit =
       (act.0.bytes ≤ length items)
       × c.Exits act.1 (drop act.0.bytes items) bytes exit
 
-  -- If the input ends within the bytes to skip, then the final reply reports it.
+  -- If the input ends within the bytes to skip, the final reply reports the end.
   abbrev pub Ends : Passed × A → List Item → List ℕ → Reply → Type 0
   Ends act items bytes last =
       ((length items < act.0.bytes) × (last ≡ exits (short_input (length items))))
@@ -81,12 +81,13 @@ module _ {A : Type 0} (passed_by : Request → Passed) (c : Commands A) where
 
   -- ---- arguments that skip nothing
 
-  -- For such arguments, an account by the commands is an account with `--skip`.
+  -- If the arguments skip no byte, then an account by the commands is an account with `--skip`.
   abbrev pub HaveAccountsAtOnce : Type 0
   HaveAccountsAtOnce = (arguments : List (List ℕ)) (call : Call) → PassNothing passed_by arguments
       → Account c arguments call → Account skipping arguments call
 
-  -- For such arguments, the specification with `--skip` implies that of the commands.
+  -- If the arguments skip no byte, then the specification with `--skip` implies the specification
+  -- of the commands.
   abbrev pub SpecifyAtOnce : Type 0
   SpecifyAtOnce = (arguments : List (List ℕ)) (call : Call) → PassNothing passed_by arguments
       → RunSpec skipping arguments call → RunSpec c arguments call

@@ -1,5 +1,5 @@
--- Exit status specification with `--skip`: that of the commands for the bytes after the skipped
--- ones, and 4 also if the input has fewer bytes.
+-- Exit status specification with `--skip`. Each status is that of the commands for the bytes after
+-- the skipped bytes. If the input has fewer bytes than the option skips, the status is 4.
 use Rattle.std.specs.Prelude.{◌<◌, ◌≤◌, ◌≡◌, ◌⊎◌, length, drop}
 use Rattle.cli_spec.specs.declared.status.Status.TheVariants.{Value}
 use Rattle.run_spec.specs.exit_causes.Causes.{Tables}

@@ -1,4 +1,4 @@
-//! Selects one item of the input.
+//! The command that selects one item of the input.
 
 ghost use Rattle.std.specs.Prelude.{◌≡◌, ◌<◌, ◌+◌, ◌^◌, List, [], ℕ, Option, Some, length};
 ghost use Rattle.cli_spec.specs.Outcome.{Output};
@@ -39,7 +39,7 @@ pub struct OnlyCommand<P, W> {
 }
 
 impl<P: PicksOne, W: Counts> OnlyCommand<P, W> {
-    /// Creates the command before its first byte.
+    /// Creates the command before the first byte of the input.
     pub fn new(work: W, picked: Option<u64>) -> OnlyCommand<P, W>
         requires { W.has work [] [] }
         ensures act { W.act result.work ≡ W.act work }
@@ -69,8 +69,8 @@ fn end_before<W: Counts>(alloc: Global, work: &mut W) -> Result<bool, Error>
     }
 }
 
-/// Consumes some current bytes of the selected item, which is the next one. With its last byte the
-/// run is finished.
+/// Consumes some current bytes of the selected item, which is the next item. After the last byte of
+/// the selected item, the run is finished.
 fn feed_last<P: PicksOne, W: Counts, K: Sink>(
     alloc: Global,
     work: &mut W,
@@ -114,21 +114,16 @@ impl<P: PicksOne, W: Counts> Work for OnlyCommand<P, W> {
         self.work.reads()
     }
 
-    fn feed<K: Sink>(
-        &mut self,
-        alloc: Global,
-        buffered: &[u8],
-        out: &mut K,
-    ) -> Result<usize, Error> {
+    fn feed<K: Sink>(&mut self, alloc: Global, chunk: &[u8], out: &mut K) -> Result<usize, Error> {
         let Some(number) = self.picked else {
-            return self.work.feed(alloc, buffered, out);
+            return self.work.feed(alloc, chunk, out);
         };
         if number <= self.work.count() {
-            return feed_last::<P, W, K>(alloc, &mut self.work, number, buffered, out);
+            return feed_last::<P, W, K>(alloc, &mut self.work, number, chunk, out);
         }
         self.work.never_finishes();
         let mut write_or_memory_error = DiscardSink {};
-        match self.work.feed(alloc, buffered, &mut write_or_memory_error) {
+        match self.work.feed(alloc, chunk, &mut write_or_memory_error) {
             Ok(taken) => Ok(taken),
             Err(Error::Exit(exit)) => Err(Error::Exit(exit)),
             Err(Error::WriteFault) => Err(Error::Exit(Exit::Memory)),

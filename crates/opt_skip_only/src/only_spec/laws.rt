@@ -1,4 +1,4 @@
-//! Lemma functions. They do nothing at run time: the contract of each function is a law.
+//! The laws of the option `--only`, as contracts of lemma functions without a body.
 
 ghost use Rattle.std.specs.Prelude.{ℕ, Option};
 ghost use Rattle.run_spec.specs.exit_causes.Causes.{AreExact};
@@ -49,34 +49,37 @@ pub fn only_command_is_lawful<P: PicksOne, C: Act>()
     ensures { AreLawful (only_command P.picked_by C.commands) }
 {}
 
-/// Proves that commands that fetch their files in turn still do so with `--only`.
+/// Proves that commands that fetch their files turn by turn fetch their files turn by turn with
+/// `--only`.
 pub fn only_command_takes_turns<P: PicksOne, C: Act>()
     requires { AreInTurns C.commands }
     ensures { AreInTurns (only_command P.picked_by C.commands) }
 {}
 
-/// Proves that `--only` adds no requests: if the commands do nothing for a request, then they still
-/// do nothing.
+/// Proves that `--only` adds no requests: if the commands ignore a request, the commands with
+/// `--only` ignore the request.
 pub fn only_command_is_idle<P: PicksOne, C: Act>()
     ensures { (request : Request) → IsIdleAt C.commands request
         → IsIdleAt (only_command P.picked_by C.commands) request }
 {}
 
-/// Proves that commands with `--only` are disjoint from others if the commands are.
+/// Proves that commands with `--only` are disjoint from a set if the commands without `--only` are
+/// disjoint from the set.
 pub fn only_command_stands_disjoint<P: PicksOne, C: Act, D: Act>()
     requires { AreDisjoint C.commands D.commands }
     ensures { AreDisjoint (only_command P.picked_by C.commands) D.commands }
 {}
 
 /// Proves that `--only` changes nothing if the arguments select all items. An account by the
-/// commands is an account with `--only`, and the specification with `--only` implies that of the
-/// commands.
+/// commands is an account with `--only`. The specification with `--only` implies the specification
+/// of the commands.
 pub fn only_command_run_spec_of_each<P: PicksOne, C: Act>()
     ensures account { HaveAccountsOfEach P.picked_by C.commands }
     ensures run_spec { SpecifyOfEach P.picked_by C.commands }
 {}
 
-/// Proves that the tables of commands with `--only` are exact if the tables of the commands are.
+/// Proves that the tables of commands with `--only` are exact if the tables of the commands are
+/// exact.
 pub fn only_command_has_exit_statuses<P: PicksOne, M: Meant>()
     requires { AreExact M.commands M.tables }
     ensures { AreExact (only_command P.picked_by M.commands)

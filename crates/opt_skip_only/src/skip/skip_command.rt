@@ -1,6 +1,6 @@
-//! Skips the first bytes of the input.
+//! The command that skips the first bytes of the input.
 
-ghost use Rattle.std.specs.Prelude.{◌≡◌, []};
+ghost use Rattle.std.specs.Prelude.{◌≡◌, ◌≤◌, ◌<◌, []};
 ghost use Rattle.cli_spec.specs.Outcome.{Output};
 ghost use Rattle.opt_skip_only.specs.skip.SkipCommand.{passed_of, HasPassed};
 
@@ -8,19 +8,19 @@ use crate::skip_spec::laws::PassesOver;
 use base_io::{Sink, write_all};
 use cli_errors::exit::Error;
 use cli_spec::exit::Exit;
-use run_loop::work::Work;
+use run_loop::work::{PassedBytes, Work};
 use std::alloc::Global;
 use std::marker::PhantomData;
 
-/// The number of bytes to skip, and whether they are written unchanged.
+/// The number of bytes to skip, and whether the skipped bytes are written unchanged.
 #[derive(Clone, Copy)]
 pub struct Over {
     pub bytes: u64,
     pub copied: bool,
 }
 
-/// A command that skips the first bytes of its input and then consumes the rest. `left` is the
-/// number of bytes that remain to be skipped.
+/// A command that skips the first bytes of the input and consumes the bytes after the skipped
+/// bytes. `left` is the number of bytes that remain to be skipped.
 #[derive(Drop)]
 pub struct SkipCommand<P, W> {
     pub work: W,
@@ -30,7 +30,7 @@ pub struct SkipCommand<P, W> {
 }
 
 impl<P: PassesOver, W: Work> SkipCommand<P, W> {
-    /// Creates the command before its first byte.
+    /// Creates the command before the first byte of the input.
     pub fn new(work: W, over: Over) -> SkipCommand<P, W>
         requires { W.has work [] [] }
         ensures act { W.act result.work ≡ W.act work }
@@ -43,6 +43,21 @@ impl<P: PassesOver, W: Work> SkipCommand<P, W> {
             left: over.bytes,
             asked: PhantomData,
         }
+    }
+}
+
+// Returns how many of the current bytes are skipped.
+fn first_bytes(left: u64, buffered: usize) -> usize
+    requires left { 0 < left }
+    requires some { 0 < buffered }
+    ensures some { 0 < result }
+    ensures within { result ≤ buffered }
+    ensures fits { result ≤ left }
+{
+    if left < buffered as u64 {
+        left as usize
+    } else {
+        buffered
     }
 }
 
@@ -61,17 +76,25 @@ impl<P: PassesOver, W: Work> Work for SkipCommand<P, W> {
         self.work.reads()
     }
 
-    fn feed<K: Sink>(
-        &mut self,
-        alloc: Global,
-        buffered: &[u8],
-        out: &mut K,
-    ) -> Result<usize, Error> {
+    fn pass(&mut self, _alloc: Global, buffered: &[u8]) -> Option<PassedBytes> {
         if self.left == 0 {
-            return self.work.feed(alloc, buffered, out);
+            return None;
+        }
+        self.work.laws();
+        let bytes = first_bytes(self.left, buffered.len());
+        self.left -= bytes as u64;
+        Some(PassedBytes {
+            bytes,
+            copied: self.over.copied,
+        })
+    }
+
+    fn feed<K: Sink>(&mut self, alloc: Global, chunk: &[u8], out: &mut K) -> Result<usize, Error> {
+        if self.left == 0 {
+            return self.work.feed(alloc, chunk, out);
         }
         if self.over.copied {
-            write_all(out, &buffered[..1])?;
+            write_all(out, &chunk[..1])?;
         }
         self.left -= 1;
         Ok(1)

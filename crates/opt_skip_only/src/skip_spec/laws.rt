@@ -1,4 +1,4 @@
-//! Lemma functions. They do nothing at run time: the contract of each function is a law.
+//! The laws of the option `--skip`, as contracts of lemma functions without a body.
 
 ghost use Rattle.run_spec.specs.exit_causes.Causes.{AreExact, Causes};
 ghost use Rattle.run_spec.specs.command_sum.CommandSum.{AreDisjoint, IsIdleAt};
@@ -49,33 +49,36 @@ pub fn skipping_is_lawful<P: PassesOver, C: Act>()
     ensures { AreLawful (skipping P.passed_by C.commands) }
 {}
 
-/// Proves that commands that fetch their files in turn still do so with `--skip`.
+/// Proves that commands that fetch their files turn by turn fetch their files turn by turn with
+/// `--skip`.
 pub fn skipping_takes_turns<P: PassesOver, C: Act>()
     requires { AreInTurns C.commands }
     ensures { AreInTurns (skipping P.passed_by C.commands) }
 {}
 
-/// Proves that `--skip` adds no requests: if the commands do nothing for a request, then they still
-/// do nothing.
+/// Proves that `--skip` adds no requests: if the commands ignore a request, the commands with
+/// `--skip` ignore the request.
 pub fn skipping_is_idle<P: PassesOver, C: Act>()
     ensures { (request : Request) → IsIdleAt C.commands request
         → IsIdleAt (skipping P.passed_by C.commands) request }
 {}
 
-/// Proves that commands with `--skip` are disjoint from others if the commands are.
+/// Proves that commands with `--skip` are disjoint from a set if the commands without `--skip` are
+/// disjoint from the set.
 pub fn skipping_stands_disjoint<P: PassesOver, C: Act, D: Act>()
     requires { AreDisjoint C.commands D.commands }
     ensures { AreDisjoint (skipping P.passed_by C.commands) D.commands }
 {}
 
-/// Proves that other commands are disjoint from commands with `--skip` if they are disjoint from
-/// the commands.
+/// Proves that a set is disjoint from commands with `--skip` if the set is disjoint from the
+/// commands without `--skip`.
 pub fn others_stand_disjoint<P: PassesOver, C: Act, D: Act>()
     requires { AreDisjoint D.commands C.commands }
     ensures { AreDisjoint D.commands (skipping P.passed_by C.commands) }
 {}
 
-/// Proves that the tables of commands with `--skip` are exact if the tables of the commands are.
+/// Proves that the tables of commands with `--skip` are exact if the tables of the commands are
+/// exact.
 pub fn skipping_has_exit_statuses<P: PassesOver, M: Meant>()
     requires { AreExact M.commands M.tables }
     ensures { AreExact (skipping P.passed_by M.commands) (skipping_tables M.tables) }
@@ -97,7 +100,8 @@ pub fn causes_after_skipping<P: PassesOver, M: Meant>()
 }
 
 /// Proves that `--skip` changes nothing if the arguments skip no byte. An account by the commands
-/// is an account with `--skip`, and the specification with `--skip` implies that of the commands.
+/// is an account with `--skip`. The specification with `--skip` implies the specification of the
+/// commands.
 pub fn skipping_run_spec_at_once<P: PassesOver, C: Act>()
     ensures account { HaveAccountsAtOnce P.passed_by C.commands }
     ensures run_spec { SpecifyAtOnce P.passed_by C.commands }

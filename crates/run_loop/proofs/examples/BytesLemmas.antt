@@ -1,4 +1,4 @@
--- The command that reads bytes.
+-- Lemmas about the command that reads bytes.
 use Rattle.std.proofs.Common.{◌≡◌, ◌≢◌, ℕ, ◌+◌, ◌<◌, ◌≤◌, true, List, [], ◌∷◌, ◌++◌, length, get_or, Ok, inl, inr, refl, sym, ap, ◌∙◌, subst, length-append, arith}
 use Rattle.std.specs.Prelude.{◌&&◌}
 use Rattle.base_data.specs.declared.model.refusal.ReadRefusal.TheVariants.{Compressed}
@@ -23,7 +23,7 @@ use Rattle.run_loop.specs.examples.Taken.{HasBytes}
 pub bytes_stay : (refused : ℕ) → ItemsStay bytes_but refused
 bytes_stay refused items bytes item more later is = (is.0, ap (λ b. b ++ later) is.1, is.2)
 
--- Each item has one byte.
+-- There are at most as many items as bytes, because each item has one byte.
 few_items :
     (refused : ℕ) (before : List Item) (bytes : List ℕ) (items : List Item) (rest : List ℕ)
     → Split bytes_but refused before bytes items rest → length items ≤ length bytes
@@ -47,7 +47,7 @@ module _ (refused count : ℕ) (bytes : List ℕ) (output : List Output)
     goes_on = record { no_exit = λ exit s. cc s.1; no_item = λ item more is. cc is.1 };
   }
 
-  -- One more byte is written.
+  -- If one more byte is not refused, then the output of the byte is appended to the outputs.
   byte_output :
       (b : ℕ) (more : List ℕ) → b ≢ refused
       → OutputsFirst bytes_but refused (bytes ++ b ∷ more) (h.items ++ text (b ∷ []) ∷ [])
@@ -130,7 +130,7 @@ byte_feeds refused count buffered o q some other write = (
   ),
 )
 
--- The state before the first byte.
+-- Before the first byte, the state is valid.
 pub bytes_begin : (refused : ℕ) → HasBytes refused 0 [] []
 bytes_begin refused = record {
   items = [];

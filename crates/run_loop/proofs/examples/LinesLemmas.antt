@@ -1,4 +1,4 @@
--- The command that reads lines.
+-- Lemmas about the command that reads lines.
 use Rattle.std.proofs.Common.{◌≡◌, ◌≢◌, ℕ, ◌<◌, true, List, [], ◌∷◌, ◌++◌, length, get_or, Ok, Err, inr, refl, sym, ap, ◌∙◌, subst, append_assoc, append-nil, arith}
 use Rattle.std.specs.Prelude.{◌&&◌, ◌==◌, false}
 use Rattle.cli_spec.specs.Outcome.{Output, nothing_output, outputs, all_ok}
@@ -30,7 +30,8 @@ lines_stay items bytes item more later is = record {
 }
 
 module _ (rest bytes : List ℕ) (output : List Output) (h : HasLines rest bytes output) where
-  -- The bytes after the last line feed are no complete line.
+  -- The consumed bytes do not end the run, because the bytes after the last line feed are no
+  -- complete line.
   abbrev pub lines_hold : HaveNoExit lines tt bytes output
   lines_hold = record {
     items = h.items;
@@ -43,7 +44,7 @@ module _ (rest bytes : List ℕ) (output : List Output) (h : HasLines rest bytes
     };
   }
 
-  -- Case: one more byte that is no line feed.
+  -- If the next byte is no line feed, then the byte is appended to the buffered bytes.
   pub line_goes_on :
       (b : ℕ) → b ≢ 10 → HasLines (rest ++ b ∷ []) (bytes ++ b ∷ []) (output ++ [])
   line_goes_on b other = record {
@@ -58,7 +59,8 @@ module _ (rest bytes : List ℕ) (output : List Output) (h : HasLines rest bytes
   abbrev next : Output
   next = fine (rest ++ 10 ∷ [])
 
-  -- Case: a line feed ends the line.
+  -- If the next byte is a line feed, then the line ends, and the output of the line is appended to
+  -- the outputs.
   line_output :
       (more : List ℕ)
       → OutputsFirst lines tt (bytes ++ 10 ∷ more) (h.items ++ text rest ∷ []) (output ++ next ∷ []) more
@@ -148,12 +150,12 @@ module _ (rest bytes : List ℕ) (output : List Output) (h : HasLines rest bytes
   lines_end_fault o q some part =
       (lines_hold, (next, ap (λ s. outputs s) (sym (last_is some)), part))
 
--- If the length is not 0, then there are some bytes.
+-- If the length of a list of bytes is not 0, then the length is positive.
 pub some_left : (bytes : List ℕ) → false ≡ (length bytes == 0) → 0 < length bytes
 some_left [] e = absurd (cc e)
 some_left (b ∷ bytes) e = omega arith
 
--- ---- a byte
+-- ---- the next byte
 
 module _ (rest kept buffered : List ℕ) (some : 0 < length buffered)
     (is_kept : kept ≡ rest ++ get_or buffered 0 0 ∷ []) where
@@ -203,7 +205,7 @@ module _ (rest kept buffered : List ℕ) (some : 0 < length buffered)
         line_fault rest bytes output h buffered f.0 o q (f.1 ∙ ap (λ b. b ∷ f.0) is_feed)
         (subst (λ t. WritesPart (change o q) t) known_next part)
 
--- The state before the first byte.
+-- Before the first byte, the state is valid.
 pub lines_begin : (rest : List ℕ) → rest ≡ [] → HasLines rest [] []
 lines_begin rest none = record {
   items = [];

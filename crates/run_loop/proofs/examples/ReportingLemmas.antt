@@ -1,4 +1,4 @@
--- The command that reads no input.
+-- Lemmas about the command that reads no input.
 use Rattle.std.proofs.Common.{◌≡◌, ℕ, List, [], Result, Ok, Err, Bool, true, refl, sym, subst}
 use Rattle.base_io.specs.Sink.{Writes, WritesPart}
 use Rattle.base_io.specs.State.{ByteState, Change, change}
@@ -8,7 +8,7 @@ use Rattle.run_spec.specs.runs.Account.{HaveNoExit}
 use Rattle.run_loop.specs.work.Works.{Has, WritesLast, EndsAt}
 use Rattle.run_loop.specs.examples.Small.{reporting, fine}
 
--- Nothing is consumed.
+-- No byte is consumed, and no output is written.
 abbrev IsNothing : Has
 IsNothing = λ bytes output. (bytes ≡ []) × (output ≡ [])
 

@@ -1,4 +1,4 @@
--- The account of a run, from the run and its report.
+-- A run and the report of the run give the account of the run.
 use Rattle.std.proofs.Common.{◌≡◌, ◌⊎◌, Bool, List, [], ◌∷◌, ◌++◌, ℕ, Result, Ok, Err, inl, inr, sym, ap, ◌∙◌, subst, append-nil}
 use Rattle.cli_spec.specs.declared.status.Status.{Status}
 use Rattle.cli_spec.specs.declared.status.Status.TheVariants.{WriteFault}
@@ -50,7 +50,7 @@ module _ {A : Type 0} (c : Commands A) (a : A) (arguments : List (List ℕ)) (fo
       line = inl (none, same ∙ ap ending_status is);
     })
 
-    -- The exit reason that is reported: that of the run, or that memory ran out.
+    -- The reported exit reason is the exit reason of the run, or memory ran out.
     reports :
         (exit known : Exit) → (Answers c a taken (replies output (exits exit)) ⊎ (exit ≡ out_of_memory))
         → Writes out (texts_of output) → (known ≡ exit) ⊎ (known ≡ out_of_memory)
@@ -102,7 +102,7 @@ module _ {A : Type 0} (c : Commands A) (a : A) (arguments : List (List ℕ)) (fo
     ended (Err (aborts.Exit exit)) ends reported = ends_stopped exit ends reported
     ended (Err aborts.WriteFault) ends (none, same) = ends_broken ends none same
 
--- The account of a run that is reported.
+-- If a run satisfies `Runs` and is reported, then the run has an account.
 pub account :
     {A : Type 0} (c : Commands A) (a : A) (input out err : Change ByteState) (status : Status)
     (result : Result Bool Error) → Runs c a input out result → IsReported result err status

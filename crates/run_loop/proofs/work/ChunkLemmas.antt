@@ -1,4 +1,4 @@
--- The state of the loop over a chunk.
+-- The state of the loop over the bytes of a chunk.
 use Rattle.std.proofs.Common.{◌≡◌, ℕ, ◌+◌, ◌<◌, List, [], ◌++◌, length, take, drop, ◌∷◌, Result, Ok, Err, inl, inr, refl, sym, ap, ◌∙◌, subst, append_assoc, append-nil, length-append, arith}
 use Rattle.std.proofs.lemmas.List.{length-drop, take-append-drop}
 use Rattle.std.specs.Prelude.{Bool, IsErrAnd}
@@ -12,7 +12,8 @@ use Rattle.run_spec.proofs.runs.WriteLemmas.{writes_then, writes_nothing}
 use Rattle.run_spec.proofs.runs.ValueLemmas.{texts_of-append}
 use Rattle.run_loop.specs.work.Works.{Has, AbortsIn, AbortsWithin, FinishesWithin, AbortsSo, Feeds, FeedsSome, FeedsAll, EndsAt}
 
--- The bytes before the rest of the chunk are consumed, and the outputs for their items are written.
+-- The bytes of the chunk before `rest` are consumed, and the outputs for the items of the consumed
+-- bytes are written.
 pub record ChunkSoFar (has : Has) (bytes : List ℕ) (output : List Output) (chunk rest : List ℕ)
     (out : Change ByteState) : Type 0 where
   pub done : List ℕ
@@ -36,7 +37,8 @@ chunk_begins has bytes output chunk o there = record {
 module _ {A : Type 0} (c : Commands A) (a : A) (has : Has) (bytes : List ℕ) (output : List Output)
     (chunk rest : List ℕ) (o p : ByteState)
     (s : ChunkSoFar has bytes output chunk rest (change o p)) where
-  -- The chunk has no more bytes than before.
+  -- If earlier bytes and a chunk stay below a limit, then all consumed bytes and the rest of the
+  -- chunk stay below the limit.
   pub chunk_room :
       (limit : ℕ) → length bytes + length chunk < limit
       → length (bytes ++ s.done) + length rest < limit
@@ -137,7 +139,7 @@ pub chunk_smaller :
 chunk_smaller c a has after rest out n (some, fits, feeds) =
     omega (arith, length-drop n rest, some, fits)
 
--- Case: the run ends.
+-- If a call of `feed` fails with an error, then the run ends with the error.
 pub feeds_error :
     {A : Type 0} (c : Commands A) (a : A) (before after : Has) (buffered : List ℕ)
     (out : Change ByteState) (error : Error) (result : Result ℕ Error)
@@ -158,7 +160,7 @@ ends_error c a has out error (Ok ok) is ends = absurd is
 ends_error c a has out error (Err e) is ends =
     subst (λ e. EndsAt c a has out (Err e)) (sym is) ends
 
--- The state so far, from any bytes and their outputs.
+-- For all bytes and outputs before the chunk, `ChunkSoFar` holds.
 abbrev pub FedSoFar : Has → Has → List ℕ → List ℕ → Change ByteState → Type 0
 FedSoFar before has chunk rest out =
     (bytes : List ℕ) (output : List Output) → before bytes output

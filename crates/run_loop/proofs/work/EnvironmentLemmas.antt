@@ -1,4 +1,4 @@
--- A status of the environment occurs only in a run in which the environment caused it.
+-- If a run returns a status of the environment, then the environment caused the status.
 use Rattle.std.proofs.Common.{◌≡◌, ℕ, ◌+◌, ◌^◌, ◌≤◌, Bool, List, [], length, Result, Ok, Err, IfSome, inl, inr, refl, sym, ap, ◌∙◌, subst, length-append, arith}
 use Rattle.std.proofs.lemmas.Option.{IfSome_then}
 use Rattle.cli_spec.specs.Outcome.{Taken, InputEnd, at_end, at_fault, at_length, unasked, Output, exits, replies}
@@ -15,14 +15,14 @@ use Rattle.run_spec.proofs.runs.WriteLemmas.{rose_after}
 use Rattle.run_loop.specs.work.Runs.{EndsRun}
 use Rattle.run_loop.specs.work.Reported.{HasReason, AbortsByEnvironment, ReportsEnvironment}
 
--- If only a part is written after a whole text, then an operation failed.
+-- If only a part of a text is written after a whole text, then a call on out failed.
 part_rose :
     (out : Change ByteState) (text next : List ℕ) → WritesPartAfter out text next
     → RoseOrLast out.before.faults out.after.faults
 part_rose out text next (between, write, part) =
     rose_after out.before.faults between.faults out.after.faults write.cause part.cause
 
--- The consumed bytes are bytes of the input.
+-- If the run ends because of the length of the input, then the input has at least 2^48 bytes.
 long_input :
     (input : Change ByteState) (taken : Taken) → Gathers input taken → taken.until ≡ at_length
     → IfSome input.before.bytes (λ bytes. 2 ^ 48 ≤ length bytes)

@@ -1,4 +1,4 @@
--- The account of a run that ends before its input, for any commands.
+-- The account of a run that ends before its input is read, for any commands.
 use Rattle.std.proofs.Common.{◌≡◌, ◌⊎◌, ◌<◌, ℕ, List, [], Err, inl, inr, refl, ◌∙◌, subst}
 use Rattle.cli_spec.specs.declared.status.Status.{Status}
 use Rattle.cli_spec.specs.Outcome.{IsUsage, Request, nothing, unfetched, exits as exits_reply, stopped, ending_of}
@@ -13,12 +13,12 @@ use Rattle.run_spec.specs.runs.Environment.{WritesLine}
 use Rattle.run_spec.proofs.runs.WriteLemmas.{writes_nothing}
 use Rattle.run_spec.proofs.runs.TakeLemmas.{took_nothing}
 
--- Files are requested in at most `n` turns.
+-- The commands request files only in the first `n` turns.
 abbrev pub WantsInTurns : {A : Type 0} → ℕ → Commands A → Type 0
 WantsInTurns n c = (request : Request) (files : Fetches) (turn : ℕ) (name : List ℕ)
     → c.Wants request files turn name → turn < n
 
--- No file was fetched.
+-- A run that fetched no file.
 abbrev pub nothing_found : Fetches
 nothing_found = λ turn name. unfetched
 
@@ -52,7 +52,7 @@ module _ {A : Type 0} (c : Commands A) (arguments : List (List ℕ)) where
     memory_account : WritesLine err status (ending_of (stopped out_of_memory)) → Account c arguments ended
     memory_account line = account_of out_of_memory (inr refl) line
 
-    -- The exit reason is reported, or that memory ran out for its line.
+    -- If the exit reason of a run is reported, or that memory ran out, then the run has an account.
     pub exit_account : (s : Exit) → (Prepares c arguments found (Err s) ⊎ (s ≡ out_of_memory))
         → Reports s err status → Account c arguments ended
     exit_account s (inl prepared) r = which r.which where
@@ -92,10 +92,10 @@ module _ {A : Type 0} (c : Commands A) (arguments : List (List ℕ)) where
       stopped_so =
           exit_account nothing_found input out (change files files) none_fetched err status
 
-      -- Case: memory ran out before.
+      -- If memory ran out before a file was fetched and is reported, then the run has an account.
       pub unread_account : Reports out_of_memory err status → Untouched
       unread_account r = stopped_so out_of_memory (inr refl) r
 
-      -- Case: the arguments are invalid.
+      -- If the arguments are invalid and that is reported, then the run has an account.
       pub usage_account : IsUsage arguments → Reports usage err status → Untouched
       usage_account none r = stopped_so usage (inl (Err usage, (none, refl), refl)) r

@@ -1,5 +1,5 @@
--- Lemmas about the first items of an input. If more bytes follow, then the first items are the
--- same. If one more item follows, then it is appended to the first items.
+-- Lemmas about the first items of an input. If more bytes follow, then the first items stay
+-- unchanged. If one more item follows, then that item is appended to the first items.
 use Rattle.std.proofs.Common.{◌≡◌, ℕ, List, [], ◌∷◌, ◌++◌, refl, sym, ap, subst, append-nil, append_assoc}
 use Rattle.cli_spec.specs.Outcome.{Output}
 use Rattle.run_spec.specs.runs.Commands.{Item, Commands, Split, AllPrint, OutputsFirst}
@@ -55,7 +55,8 @@ module _ {A : Type 0} (c : Commands A) (a : A) where
         (subst (λ b. c.Outputs a b item next) (sym (append_assoc before (first ∷ []) items)) outputs),
   )
 
-  -- If one more item follows the first items, then its output is appended to their outputs.
+  -- If one more item follows the first items, then the output of the item is appended to the
+  -- outputs.
   pub first_next :
       (bytes : List ℕ) (items : List Item) (output : List Output) (rest : List ℕ)
       (item : Item) (more : List ℕ) (next : Output)
@@ -67,7 +68,7 @@ module _ {A : Type 0} (c : Commands A) (a : A) where
     all_print = print_next [] items output item next first.all_print outputs;
   }
 
-  -- If there are no bytes and no outputs, then there are no items, and no bytes are left.
+  -- If there are no bytes and no outputs, then there are no items and no remaining bytes.
   pub none_first :
       (items : List Item) (rest : List ℕ) → OutputsFirst c a [] items [] rest
       → (items ≡ []) × (rest ≡ [])

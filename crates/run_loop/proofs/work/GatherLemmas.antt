@@ -1,6 +1,6 @@
--- Outputs for items, collected and written at once. If writing to out fails, then it fails in the
--- output for one item.
-use Rattle.std.proofs.Common.{◌≡◌, ◌⊎◌, ℕ, ◌+◌, ◌-◌, ◌<◌, ◌≤◌, List, [], ◌∷◌, ◌++◌, length, take, drop, Option, Some, None, Result, Ok, Err, inl, inr, refl, sym, ap, ◌∙◌, subst, append_assoc, append-nil, length-append, arith}
+-- Outputs for items, collected and written at once. If writing to out fails, then writing fails in
+-- the output for one item.
+use Rattle.std.proofs.Common.{◌≡◌, ◌⊎◌, ℕ, zero, suc, ◌+◌, ◌-◌, ◌<◌, ◌≤◌, List, [], ◌∷◌, ◌++◌, length, take, drop, Option, Some, None, Result, Ok, Err, inl, inr, refl, sym, ap, ◌∙◌, subst, append_assoc, append-nil, length-append, arith}
 use Rattle.std.proofs.Math.Seq.{take-add, take-append-add}
 use Rattle.std.proofs.lemmas.List.{take-append-drop, take-append-le}
 use Rattle.std.specs.Prelude.{IsErrAnd, true, false, is_some}
@@ -18,7 +18,7 @@ use Rattle.run_spec.specs.runs.Commands.{Commands, OutputsFirst}
 use Rattle.run_spec.proofs.runs.WriteLemmas.{writes_then, writes_nothing}
 use Rattle.run_spec.proofs.runs.ValueLemmas.{texts_of-append, texts_of-one}
 use Rattle.run_loop.specs.work.Works.{Has, ItemsStay, AreOutput, FinishesIn, Aborts, AbortsWithin, AbortsSo, Feeds, FeedsSome}
-use Rattle.run_loop.specs.work.Gathered.{text_state, MayBreakAt, MayBreak, GathersTo, GathersUntil, GathersLast, Gathers, GathersOne}
+use Rattle.run_loop.specs.work.Gathered.{text_state, MayBreakAt, MayBreak, GathersTo, GathersUntil, GathersLast, Gathers, GathersOne, GathersSome}
 use Rattle.run_loop.proofs.work.FirstLemmas.{first_stays}
 
 -- ---- a text in memory
@@ -26,14 +26,14 @@ use Rattle.run_loop.proofs.work.FirstLemmas.{first_stays}
 abbrev grown : List ℕ → List ℕ → Change ByteState
 grown old new = change (text_state old) (text_state new)
 
--- The effect of a write to it.
+-- If a text is written to the sink in memory, then the text is appended to the bytes in memory.
 writes_text : (old new text : List ℕ) → Writes (grown old new) text → new ≡ old ++ text
 writes_text old new text write =
     let is : ◌≡◌ {A = Option (List ℕ)} (Some new) (Some (old ++ text)) = write.appended in cc is
 
 -- ---- writing to out fails in one of several outputs
 
--- The outputs for some items were written, followed by a part of the next one.
+-- The outputs for some items were written, followed by a proper part of the next output.
 pub record FailsIn (out : Change ByteState) (more : List Output) : Type 0 where
   pub first : List Output
   pub next : Output
@@ -154,7 +154,8 @@ none_split :
 none_split [] later next same = cc same
 none_split (output ∷ first) later next same = cc same
 
--- An element at which the list is split is the last element or precedes it.
+-- If a list with a last element is split at an element, then the element is the last element or
+-- precedes the last element.
 last_split :
     (more first later : List Output) (last next : Output)
     → more ++ last ∷ [] ≡ first ++ next ∷ later
@@ -174,10 +175,33 @@ last_split (output ∷ more) (known ∷ first) later last next same =
       | inr some ↦ inr (some.0, ap (λ s. s ∷ more) is ∙ ap (λ m. known ∷ m) some.1)
     ]
 
+-- If a list of two parts is split at an element, then the element is in the first part or in the
+-- second part.
+append_split :
+    (xs ys first later : List Output) (next : Output) → xs ++ ys ≡ first ++ next ∷ later
+    → ((before : List Output) × (xs ≡ first ++ next ∷ before))
+    ⊎ ((between : List Output) × (first ≡ xs ++ between) × (ys ≡ between ++ next ∷ later))
+append_split [] ys first later next same = inr (first, refl, same)
+append_split (x ∷ xs) ys [] later next same =
+    let is : x ≡ next = cc same in inl (xs, ap (λ s. s ∷ xs) is)
+append_split (x ∷ xs) ys (y ∷ first) later next same =
+    let is : x ≡ y = cc same in
+    let rest : xs ++ ys ≡ first ++ next ∷ later = cc same in
+    elim (append_split xs ys first later next rest) [
+      | inl some ↦ inl (some.0, ap (λ s. s ∷ xs) is ∙ ap (λ m. y ∷ m) some.1)
+      | inr split ↦
+          inr (
+            split.0,
+            ap (λ m. y ∷ m) split.1 ∙ ap (λ s. s ∷ (xs ++ split.0)) (sym is),
+            split.2,
+          )
+    ]
+
 module _ {A : Type 0} (c : Commands A) (a : A) where
   -- ---- one item
 
-  -- Case: the item ends the run without output, or the run is finished after it.
+  -- If the item ends the run without output, or the run is finished after the item, then
+  -- `GathersOne` holds.
   pub one_stopped :
       (before after : Has) (buffered old new : List ℕ) (exit : Exit)
       → Feeds c a before after buffered (grown old new) (Err (aborts.Exit exit))
@@ -208,7 +232,8 @@ module _ {A : Type 0} (c : Commands A) (a : A) where
   }
 
   module _ (buffered bytes : List ℕ) (output : List Output) where
-    -- Writing may fail in one more output.
+    -- If writing may fail in the outputs so far and in the last output, then writing may fail in
+    -- any of the outputs.
     pub may_break_last :
         (more : List Output) (last : Output) → MayBreak c a bytes output buffered more
         → MayBreakAt c a bytes output buffered more last
@@ -259,30 +284,113 @@ module _ {A : Type 0} (c : Commands A) (a : A) where
           }
     may_break_more more (one ∷ two ∷ new) few before holds then = absurd (omega (arith, few))
 
+  module _ (buffered bytes : List ℕ) (output : List Output) (t : ℕ) where
+    abbrev left : List ℕ
+    left = drop t buffered
+
+    -- Suppose writing may fail in the outputs so far, and in the outputs for the next bytes. Then
+    -- writing may fail in any of the outputs.
+    may_break_some :
+        (more new : List Output) → MayBreak c a bytes output buffered more
+        → MayBreak c a (bytes ++ take t buffered) (output ++ more) left new
+        → MayBreak c a bytes output buffered (more ++ new)
+    may_break_some more new before then = λ first later next same.
+        elim (append_split more new first later next same) [
+          | inl some ↦ before first some.0 next some.1
+          | inr split ↦
+              subst (λ f. MayBreakAt c a bytes output buffered f next) (sym split.1)
+              (later_at split.0 next (then split.0 later next split.2))
+        ]
+      where
+        both : (bytes ++ take t buffered) ++ left ≡ bytes ++ buffered
+        both =
+            append_assoc bytes (take t buffered) left
+            ∙ ap (λ r. bytes ++ r) (take-append-drop t buffered)
+
+        later_at : (between : List Output) (next : Output)
+            → MayBreakAt c a (bytes ++ take t buffered) (output ++ more) left between next
+            → MayBreakAt c a bytes output buffered (more ++ between) next
+        later_at between next b = record {
+          done = take t buffered ++ b.done;
+          rest = b.rest;
+          split = sym (take-append-drop t buffered)
+              ∙ (ap (λ r. take t buffered ++ r) b.split
+              ∙ sym (append_assoc (take t buffered) b.done b.rest));
+          holds = subst (λ b. HaveNoExit c a b (output ++ (more ++ between)))
+              (append_assoc bytes (take t buffered) b.done)
+              (subst (λ s. HaveNoExit c a ((bytes ++ take t buffered) ++ b.done) s)
+              (append_assoc output more between) b.holds);
+          are_output = subst (λ b. AreOutput c a b ((output ++ (more ++ between)) ++ next ∷ [])) both
+              (subst (λ s. AreOutput c a ((bytes ++ take t buffered) ++ left) (s ++ next ∷ []))
+              (append_assoc output more between) b.are_output);
+        }
+
+  -- ---- some items
+
+  -- If `GathersOne` holds for a number of bytes, then `GathersSome` holds.
+  pub some_of_one :
+      ItemsStay c a → (before after : Has) (buffered old new : List ℕ) (n : ℕ)
+      → GathersOne c a before after buffered old new (Ok n)
+      → GathersSome c a before after buffered old new (Ok n)
+  some_of_one stay before after buffered old new n (some, fits, one) = (
+    some,
+    fits,
+    λ bytes output there.
+        let f = one bytes output there in (
+          texts_of f.1,
+          record {
+            more = f.1;
+            there = f.3;
+            text_is = refl;
+            may_break = may_break_more stay buffered bytes output 0 n [] f.1 f.2
+                (λ first later next same. absurd (none_split first later next same))
+                (subst (λ b. HaveNoExit c a b (output ++ [])) (sym (append-nil bytes))
+                (subst (λ s. HaveNoExit c a bytes s) (sym (append-nil output)) f.0))
+                (subst (λ b. HaveNoExit c a (b ++ take n buffered) ((output ++ []) ++ f.1)) (sym (append-nil bytes))
+                (subst (λ s. HaveNoExit c a (bytes ++ take n buffered) (s ++ f.1)) (sym (append-nil output)) f.4));
+          },
+          f.5,
+        ),
+  )
+
+  pub some_by_one :
+      ItemsStay c a → (before mid after : Has) (buffered old new : List ℕ) (result : Result ℕ Error)
+      → ((bytes : List ℕ) (output : List Output) → before bytes output → mid bytes output)
+      → GathersOne c a mid after buffered old new result
+      → GathersSome c a before after buffered old new result
+  some_by_one stay before mid after buffered old new (Ok n) unchanged one =
+      let s = some_of_one stay mid after buffered old new n one in
+      (s.0, s.1, λ bytes output there. s.2 bytes output (unchanged bytes output there))
+  some_by_one stay before mid after buffered old new (Err (aborts.Exit exit)) unchanged one =
+      λ bytes output there. one bytes output (unchanged bytes output there)
+  some_by_one stay before mid after buffered old new (Err aborts.WriteFault) unchanged never = never
+
   module _ (before has after : Has) (buffered text new : List ℕ) (t : ℕ) where
-    -- Some items were collected, from any bytes and their outputs.
+    -- For all bytes and outputs before the current bytes, the output for some items is collected.
     abbrev SoFar : Type 0
     SoFar = (bytes : List ℕ) (output : List Output) → before bytes output
         → GathersTo c a has buffered t text bytes output
 
     pub gathers_more :
-        ItemsStay c a → SoFar → (n : ℕ)
-        → GathersOne c a has after (drop t buffered) text new (Ok n)
+        SoFar → (n : ℕ)
+        → GathersSome c a has after (drop t buffered) text new (Ok n)
         → (bytes : List ℕ) (output : List Output) → before bytes output
         → GathersTo c a after buffered (t + n) new bytes output
-    gathers_more stay so_far n (some, fits, one) bytes output there =
+    gathers_more so_far n (some, fits, next) bytes output there =
         let s = so_far bytes output there in
-        let f = one (bytes ++ take t buffered) (output ++ s.more) s.there in
+        let (gained, f, grown) = next (bytes ++ take t buffered) (output ++ s.more) s.there in
         let taken : (bytes ++ take t buffered) ++ take n (drop t buffered) ≡ bytes ++ take (t + n) buffered =
         append_assoc bytes (take t buffered) (take n (drop t buffered))
         ∙ ap (λ b. bytes ++ b) (sym (take-add t n buffered)) in
         record {
-          more = s.more ++ f.1;
-          there = subst (λ b. after b (output ++ (s.more ++ f.1))) taken
+          more = s.more ++ f.more;
+          there = subst (λ b. after b (output ++ (s.more ++ f.more))) taken
               (subst (λ all. after ((bytes ++ take t buffered) ++ take n (drop t buffered)) all)
-              (append_assoc output s.more f.1) f.3);
-          text_is = f.5 ∙ (ap (λ b. b ++ texts_of f.1) s.text_is ∙ sym (texts_of-append s.more f.1));
-          may_break = may_break_more stay buffered bytes output t n s.more f.1 f.2 s.may_break f.0 f.4;
+              (append_assoc output s.more f.more) f.there);
+          text_is = grown
+              ∙ (ap (λ b. b ++ gained) s.text_is
+              ∙ (ap (λ b. texts_of s.more ++ b) f.text_is ∙ sym (texts_of-append s.more f.more)));
+          may_break = may_break_some buffered bytes output t s.more f.more s.may_break f.may_break;
         }
 
     gathers_exit :
@@ -361,6 +469,26 @@ module _ {A : Type 0} (c : Commands A) (a : A) where
     gathers_error so_far any error (Err e) is one =
         subst (λ e. Gathers c a before any buffered new (Err e)) (sym is)
         (gathers_err so_far any error one)
+
+  -- ---- one byte after another
+
+  -- If `GathersSome` holds for each of the first `n` bytes, then the output for the items in these
+  -- bytes is collected.
+  pub gathers_each :
+      (has : ℕ → Has) (buffered : List ℕ) (text : ℕ → List ℕ) → text 0 ≡ [] → (n : ℕ)
+      → ((k : ℕ) → k < n
+      → GathersSome c a (has k) (has (k + 1)) (drop k buffered) (text k) (text (k + 1)) (Ok 1))
+      → (bytes : List ℕ) (output : List Output) → has 0 bytes output
+      → GathersTo c a (has n) buffered n (text n) bytes output
+  gathers_each has buffered text none zero each bytes output there =
+      gathers_none (has 0) buffered (text 0) bytes output there none
+  gathers_each has buffered text none (suc n) each bytes output there =
+      let so_far : SoFar (has 0) (has n) (has (n + 1)) buffered (text n) (text (n + 1)) n =
+      gathers_each has buffered text none n (λ k less. each k (omega (arith, less))) in
+      let next : n + 1 ≡ suc n = omega arith in
+      subst (λ m. GathersTo c a (has m) buffered m (text m) bytes output) next
+      (gathers_more (has 0) (has n) (has (n + 1)) buffered (text n) (text (n + 1)) n so_far 1
+      (each n (omega arith)) bytes output there)
 
   -- ---- the outputs are written
 

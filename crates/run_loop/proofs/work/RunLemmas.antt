@@ -1,4 +1,4 @@
--- The state of the loop over the input.
+-- The state of the loop over the input, and the end of the run.
 use Rattle.std.proofs.Common.{◌≡◌, ℕ, ◌+◌, ◌^◌, ◌<◌, ◌≤◌, Bool, List, [], ◌∷◌, ◌++◌, length, take, Result, Ok, Err, inl, inr, refl, sym, ap, ◌∙◌, subst, append_assoc, append-nil, length-append, arith}
 use Rattle.std.proofs.lemmas.List.{length-take}
 use Rattle.std.specs.Prelude.{IsErrAnd}
@@ -21,8 +21,8 @@ use Rattle.run_loop.specs.work.Works.{Has, ItemsStay, AreOutput, AbortsIn, Finis
 use Rattle.run_loop.specs.work.Runs.{EndsRun, Runs}
 use Rattle.run_loop.proofs.work.FirstLemmas.{first_stays, none_first}
 
--- The first `count` bytes are consumed and do not end the run, and the outputs for their items are
--- written.
+-- The first `count` bytes of the input are consumed and do not end the run. The outputs for the
+-- items of the consumed bytes are written.
 pub record RunSoFar (has : Has) (count : ℕ) (input out : Change ByteState) : Type 0 where
   pub bytes : List ℕ
   pub output : List Output
@@ -43,7 +43,8 @@ run_begins has i o there = record {
 }
 
 module _ {A : Type 0} (c : Commands A) (a : A) where
-  -- Case: there are no current bytes.
+  -- If the consumed bytes do not end the run, then no chunk is read after a chunk that ends the
+  -- run.
   paced_whole :
       (bytes : List ℕ) (output : List Output) (until : InputEnd) → HaveNoExit c a bytes output
       → IsPaced c a (taken bytes until) output
@@ -60,7 +61,8 @@ module _ {A : Type 0} (c : Commands A) (a : A) where
 
   -- ---- the final reply
 
-  -- A final output is written after the others.
+  -- If the outputs for the items and the final output are written, then the list of all outputs is
+  -- written.
   write_final :
       (output : List Output) (final : Output) (o p q : ByteState) → Writes (change o p) (texts_of output)
       → Writes (change p q) final.text → Writes (change o q) (texts_of (output ++ final ∷ []))
@@ -76,7 +78,7 @@ module _ {A : Type 0} (c : Commands A) (a : A) where
       subst (λ text. Writes (change o q) text) (append-nil (texts_of output))
       (writes_then o p q (texts_of output) [] before none)
 
-  -- The consequences of the final reply, whatever it is.
+  -- For each kind of final reply, what the written final reply implies for the run.
   module _ (bytes : List ℕ) (until : InputEnd) (output : List Output) (items : List Item) (rest : List ℕ)
       (answers : (last : Reply) → c.Ends a items rest last
       → Answers c a (taken bytes until) (replies output last)) where
@@ -116,7 +118,7 @@ module _ {A : Type 0} (c : Commands A) (a : A) where
 
   -- ---- with an input
 
-  -- Case: memory ran out before any of the input was read.
+  -- If memory ran out before any byte of the input was read, then the run satisfies `Runs`.
   pub run_without_memory :
       c.Reads a → (i o : ByteState) → HaveNoExit c a [] []
       → Runs c a (change i i) (change o o) (Err (aborts.Exit out_of_memory))
@@ -133,7 +135,7 @@ module _ {A : Type 0} (c : Commands A) (a : A) where
     few : count < 2 ^ 48 → length s.bytes < 2 ^ 48
     few short = let counted = s.counted in omega (arith, counted, short)
 
-    -- The final reply if the input contains no exit reason.
+    -- If the input contains no exit reason, then the last reply is the final reply.
     closed :
         (holds : HaveNoExit c a s.bytes s.output) (until : InputEnd) (last : Reply)
         → IsLast c a holds.items holds.rest until last
@@ -219,7 +221,8 @@ module _ {A : Type 0} (c : Commands A) (a : A) where
               let size = ap length split ∙ length-append done buffered in
               let whole = length-take n buffer in omega (arith, size, whole, chunk)
 
-          -- No further chunk is read.
+          -- If the consumed bytes do not end the run, then no chunk is read after a chunk that ends
+          -- the run.
           paced :
               HaveNoExit c a (s.bytes ++ done) all
               → IsPaced c a (taken (s.bytes ++ take n buffer) unasked) all
@@ -279,7 +282,7 @@ module _ {A : Type 0} (c : Commands A) (a : A) where
             );
           }
 
-        -- The run is finished within the chunk.
+        -- If the run is finished within the chunk, then the run satisfies `Runs`.
         finished_so :
             (error : Error) → FinishesWithin c a s.bytes s.output (take n buffer) (change p q) error
             → Runs c a (change i k) (change o q) (Err error)

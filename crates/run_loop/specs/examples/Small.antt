@@ -1,5 +1,5 @@
--- Three small commands: one reads no input, one reads lines, and one reads bytes and refuses one of
--- them.
+-- Three small commands: one reads no input, one reads lines, and one reads bytes and refuses one
+-- byte value.
 use Rattle.std.specs.Prelude.{ℕ, ◌≡◌, ◌≢◌, true, List, [], ◌∷◌, ◌++◌, length, Ok, codes}
 use Rattle.std.specs.List.{AllByRecursion}
 use Rattle.base_data.specs.declared.model.refusal.ReadRefusal.TheVariants.{Compressed}
@@ -26,13 +26,13 @@ reporting = record {
   Ends = λ a items bytes last. last ≡ outputs (fine a);
 }
 
--- ---- the command writes each line again; a last line gets a line feed
+-- ---- the command copies each line; a last line without a line feed gets one
 
 -- The bytes contain no line feed.
 abbrev pub IsUnbroken : List ℕ → Type 0
 IsUnbroken bytes = AllByRecursion (λ b. b ≢ 10) bytes
 
--- The bytes are a line with its line feed, followed by the rest.
+-- The bytes are a line with its line feed, followed by the bytes `more`.
 pub record IsFirstLine (bytes : List ℕ) (item : Item) (more : List ℕ) : Type 0 where
   pub line : List ℕ
   pub unbroken : IsUnbroken line
@@ -59,9 +59,9 @@ lines = record {
   Ends = λ a items bytes last. last ≡ outputs (last_line bytes);
 }
 
--- ---- the command writes each byte again, except for one, which it refuses
+-- ---- the command copies each byte, and refuses one byte value
 
--- The bytes are one byte followed by the rest.
+-- The bytes are one byte, which is the item, followed by the bytes `more`.
 abbrev pub IsFirstByte : List ℕ → Item → List ℕ → Type 0
 IsFirstByte bytes item more = (b : ℕ) × (bytes ≡ b ∷ more) × (item ≡ text (b ∷ []))
 
@@ -69,7 +69,7 @@ abbrev pub OutputsByte : ℕ → Item → Output → Type 0
 OutputsByte refused item output =
     (b : ℕ) × (b ≢ refused) × (item ≡ text (b ∷ [])) × (output ≡ fine (b ∷ []))
 
--- The byte is refused, with its number.
+-- The next byte is the refused byte, and the exit reason reports the number of the byte.
 abbrev pub ExitsAtByte : ℕ → List Item → List ℕ → Exit → Type 0
 ExitsAtByte refused items bytes exit =
     (more : List ℕ) × (bytes ≡ refused ∷ more)

@@ -1,4 +1,4 @@
--- The report of a run, and what its status implies about the environment.
+-- The report of a run, and what the status of the run implies about the environment.
 use Rattle.std.specs.Prelude.{ℕ, ◌^◌, ◌≤◌, ◌≡◌, ◌⊎◌, Bool, if◌then◌else◌, List, [], length, Result}
 use Rattle.std.specs.Prelude.{Ok, Err, IfSome}
 use Rattle.cli_spec.specs.declared.status.Status.{Status}
@@ -23,15 +23,16 @@ use Rattle.run_loop.specs.work.Runs.{Runs}
 abbrev pub ending_status : Bool → Status
 ending_status ok = if ok then statuses.AllOk else statuses.No
 
--- If the run ended early, then its exit reason is reported. If writing to out failed, or the run
--- reached its end, then nothing is written to err.
+-- If the run ended early, then the exit reason is reported on `err`. If writing to out failed, or
+-- the run reached the end of the input, then nothing is written to `err`.
 abbrev pub IsReported : Result Bool Error → Change ByteState → Status → Type 0
 IsReported (Ok ok) err status = Writes err [] × (status ≡ ending_status ok)
 IsReported (Err (aborts.Exit exit)) err status = Reports exit err status
 IsReported (Err aborts.WriteFault) err status = Writes err [] × (status ≡ statuses.WriteFault)
 
--- The exit reason is the command's own, or the environment caused it: memory ran out, a read from
--- the input failed, or the input has 2^48 bytes or more.
+-- Either the exit reason is the command's own, or the environment caused the exit reason. The
+-- causes of the environment are that memory ran out, that a read failed, and that the input has
+-- 2^48 bytes or more.
 abbrev pub HasReason : Change ByteState → Exit → Type 0
 HasReason input exit =
     IsInner exit
@@ -39,8 +40,8 @@ HasReason input exit =
     ⊎ (((exit ≡ read_fault) × RoseOrLast input.before.faults input.after.faults)
     ⊎ ((exit ≡ too_long) × IfSome input.before.bytes (λ bytes. 2 ^ 48 ≤ length bytes))))
 
--- If the run ends early, then for such a reason. Writing to out fails only if an operation on it
--- failed.
+-- If the run ends early, then the exit reason satisfies `HasReason`. If writing to out fails, then
+-- a call on out failed.
 abbrev pub AbortsByEnvironment : Change ByteState → Change ByteState → Result Bool Error → Type 0
 AbortsByEnvironment input out (Ok ok) = Unit {0}
 AbortsByEnvironment input out (Err (aborts.Exit exit)) = HasReason input exit
@@ -48,7 +49,7 @@ AbortsByEnvironment input out (Err aborts.WriteFault) =
     RoseOrLast out.before.faults out.after.faults
 
 module _ {A : Type 0} (c : Commands A) where
-  -- A run with these results has an account, whatever its arguments and files are.
+  -- For all arguments and files of the task, a run with these results has an account.
   abbrev pub HasAccount :
       A → Change ByteState → Change ByteState → Change ByteState → Status → Type 0
   HasAccount a input out err status =
@@ -56,7 +57,7 @@ module _ {A : Type 0} (c : Commands A) where
       → FetchesFor c arguments files found → Prepares c arguments found (Ok a)
       → Account c arguments (call input files out err status)
 
-  -- A lawful command returns a status of the environment only if the environment caused it.
+  -- A lawful command returns a status of the environment only if the environment caused the status.
   abbrev pub ReportsEnvironment : Type 0
   ReportsEnvironment = (a : A) → AreLawfulAt c a
       → (input out : Change ByteState) (result : Result Bool Error)

@@ -14,16 +14,16 @@ use Rattle.run_spec.specs.runs.Environment.{WritesPartAfter}
 use Rattle.run_loop.specs.work.Works.{AreOutput}
 
 module _ {A : Type 0} (c : Commands A) (a : A) where
-  -- The outputs for the items so far, if the input is read: no further chunk is read after one that
+  -- The outputs for the items so far. If the input is read, no chunk is read after a chunk that
   -- ends the run. If the input is not read, then nothing is consumed.
   abbrev pub IsOutputOf : Taken → List Output → Type 0
   IsOutputOf taken output =
       (c.Reads a × IsPaced c a taken output)
       ⊎ ((c.Reads a → ⊥) × (taken ≡ nothing) × (output ≡ []))
 
-  -- After these outputs, everything that belongs to the final reply is written. The final reply
-  -- follows from the consumed input, or memory ran out. Or writing to out failed within the next
-  -- output.
+  -- How a run ends after the outputs `output`. If the result is `Ok`, the final output is written.
+  -- If the result is an exit reason, the exit reason follows from the consumed input, or memory ran
+  -- out. If the result is a failed write, writing failed within the next output.
   abbrev pub EndsRun : Taken → List Output → Change ByteState → Result Bool Error → Type 0
   EndsRun taken output out (Ok ok) =
       (final : Output) × Answers c a taken (replies output (outputs final))
@@ -37,7 +37,7 @@ module _ {A : Type 0} (c : Commands A) (a : A) where
       ⊎ Answers c a taken (replies output (outputs next)))
       × WritesPartAfter out (texts_of output) next.text
 
-  -- The input is read chunk by chunk, and the outputs for its items are written.
+  -- The input is read chunk by chunk, and the outputs for the items of the input are written.
   pub record Runs (input out : Change ByteState) (result : Result Bool Error) : Type 0 where
     pub taken : Taken
     pub gathers : Gathers input taken

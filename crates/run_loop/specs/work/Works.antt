@@ -1,4 +1,4 @@
--- A command and the bytes of its input as they arrive.
+-- A command, and the bytes of the command's input as they arrive.
 use Rattle.std.specs.Prelude.{ℕ, ◌<◌, ◌≤◌, ◌≡◌, ◌⊎◌, Bool, List, [], ◌∷◌, ◌++◌, length, take}
 use Rattle.std.specs.Prelude.{Result, Ok, Err}
 use Rattle.cli_spec.specs.Outcome.{Output, outputs, exits, texts_of, all_ok}
@@ -11,25 +11,26 @@ use Rattle.cli_errors.specs.declared.exit.Error.TheVariants as aborts
 use Rattle.run_spec.specs.runs.Account.{HaveNoExit}
 use Rattle.run_spec.specs.runs.Commands.{Item, Commands, OutputsFirst}
 
--- These bytes are consumed, and these are the outputs for their items.
+-- A relation between the consumed bytes and the outputs for the items of the consumed bytes.
 abbrev pub Has : Type 1
 Has = List ℕ → List Output → Type 0
 
 module _ {A : Type 0} (c : Commands A) (a : A) where
-  -- An item remains one if more bytes follow.
+  -- An item stays an item if more bytes follow.
   abbrev pub ItemsStay : Type 0
   ItemsStay = (items : List Item) (bytes : List ℕ) (item : Item) (more later : List ℕ)
       → c.IsFirst a items bytes item more → c.IsFirst a items (bytes ++ later) item (more ++ later)
 
-  -- The outputs for the first items of the bytes.
+  -- The outputs are the outputs for the first items of the bytes.
   abbrev pub AreOutput : List ℕ → List Output → Type 0
   AreOutput bytes output =
       (items : List Item) × (rest : List ℕ) × OutputsFirst c a bytes items output rest
 
-  -- ---- in a chunk
+  -- ---- the run within a chunk
 
-  -- The bytes before the current ones do not end the run. With the current bytes the run ends, or
-  -- memory ran out; or the next item ends, and its output could not be written completely.
+  -- The bytes `earlier` do not end the run. If the error is an exit reason, the run ends with the
+  -- current bytes, or memory ran out. If the error is a failed write, the next item ends, and the
+  -- output of the item could not be written completely.
   abbrev pub AbortsIn : List ℕ → List ℕ → List Output → Change ByteState → Error → Type 0
   AbortsIn earlier buffered output out (aborts.Exit exit) =
       (holds : HaveNoExit c a earlier output)
@@ -41,8 +42,8 @@ module _ {A : Type 0} (c : Commands A) (a : A) where
       × (next : Output) × AreOutput (earlier ++ buffered) (output ++ next ∷ [])
       × WritesPart out next.text
 
-  -- The run is finished with the current bytes: one more item ends in them, its output is written,
-  -- and the run ends after it with this reason.
+  -- One more item ends in the current bytes, and the output of the item is written. The run ends
+  -- after the item with the exit reason `error`.
   pub record FinishesIn (earlier buffered : List ℕ) (output : List Output) (out : Change ByteState)
       (error : Error) : Type 0 where
     pub holds : HaveNoExit c a earlier output
@@ -59,8 +60,8 @@ module _ {A : Type 0} (c : Commands A) (a : A) where
   Aborts earlier buffered output out error =
       AbortsIn earlier buffered output out error ⊎ FinishesIn earlier buffered output out error
 
-  -- At least one current byte is consumed. At most one item ends in the consumed bytes, and its
-  -- output is written. Or the run ends.
+  -- If the result is a number, at least one current byte is consumed, and at most one item ends in
+  -- the consumed bytes. The output of the item is written. If the result is an error, the run ends.
   abbrev pub Feeds : Has → Has → List ℕ → Change ByteState → Result ℕ Error → Type 0
   Feeds before after buffered out (Ok n) =
       (0 < n) × (n ≤ length buffered)
@@ -71,7 +72,7 @@ module _ {A : Type 0} (c : Commands A) (a : A) where
       (bytes : List ℕ) (output : List Output) → before bytes output
       → Aborts bytes buffered output out error
 
-  -- The run ends within a chunk. The outputs for the items that end before are written.
+  -- The run ends within a chunk. The outputs for the items that end before the exit are written.
   pub record AbortsWithin (bytes : List ℕ) (output : List Output) (chunk : List ℕ)
       (out : Change ByteState) (error : Error) : Type 0 where
     pub done : List ℕ
@@ -82,8 +83,8 @@ module _ {A : Type 0} (c : Commands A) (a : A) where
     pub write : Writes (change out.before between) (texts_of more)
     pub aborts : AbortsIn (bytes ++ done) buffered (output ++ more) (change between out.after) error
 
-  -- The run is finished within a chunk. The outputs for the items that end there are written, and
-  -- the run ends after the last of them.
+  -- The run is finished within a chunk. The outputs for the items that end in the consumed bytes
+  -- are written, and the run ends after the last item.
   pub record FinishesWithin (bytes : List ℕ) (output : List Output) (chunk : List ℕ)
       (out : Change ByteState) (error : Error) : Type 0 where
     pub done : List ℕ
@@ -104,8 +105,9 @@ module _ {A : Type 0} (c : Commands A) (a : A) where
   AbortsSo bytes output chunk out error =
       AbortsWithin bytes output chunk out error ⊎ FinishesWithin bytes output chunk out error
 
-  -- At least one current byte is consumed, and the outputs for the items that end in the consumed
-  -- bytes are written. Or the run ends within the current bytes.
+  -- If the result is a number, at least one current byte is consumed, and the outputs for the items
+  -- that end in the consumed bytes are written. If the result is an error, the run ends within the
+  -- current bytes.
   abbrev pub FeedsSome : Has → Has → List ℕ → Change ByteState → Result ℕ Error → Type 0
   FeedsSome before after buffered out (Ok n) =
       (0 < n) × (n ≤ length buffered)
@@ -116,8 +118,8 @@ module _ {A : Type 0} (c : Commands A) (a : A) where
       (bytes : List ℕ) (output : List Output) → before bytes output
       → AbortsSo bytes output buffered out error
 
-  -- A chunk is consumed to its end, and the outputs for the items that end in it are written; or
-  -- the run ends within it.
+  -- If the result is `Ok`, a whole chunk is consumed, and the outputs for the items that end in the
+  -- chunk are written. If the result is an error, the run ends within the chunk.
   abbrev pub FeedsAll :
       {U : Type 0} → Has → Has → List ℕ → Change ByteState → Result U Error → Type 0
   FeedsAll before after chunk out (Ok done) =
@@ -127,10 +129,12 @@ module _ {A : Type 0} (c : Commands A) (a : A) where
       (bytes : List ℕ) (output : List Output) → before bytes output
       → AbortsSo bytes output chunk out error
 
-  -- ---- at the end
+  -- ---- the run at the end of the input
 
-  -- The final output is written, and the result says whether no output has an error. Or the final
-  -- reply is an exit reason, or memory ran out; or the output could not be written completely.
+  -- How the final reply is written. If the result is `Ok`, the final output is written, and the
+  -- result states whether no output has an error. If the result is an exit reason, the final reply
+  -- is that exit reason, or memory ran out. If the result is a failed write, the output could not
+  -- be written completely.
   abbrev pub WritesLast :
       List Output → List Item → List ℕ → Change ByteState → Result Bool Error → Type 0
   WritesLast output items rest out (Ok ok) =
@@ -141,7 +145,7 @@ module _ {A : Type 0} (c : Commands A) (a : A) where
   WritesLast output items rest out (Err aborts.WriteFault) =
       (final : Output) × c.Ends a items rest (outputs final) × WritesPart out final.text
 
-  -- No more bytes arrive.
+  -- The input ends after the consumed bytes.
   abbrev pub EndsAt : Has → Change ByteState → Result Bool Error → Type 0
   EndsAt has out result =
       (bytes : List ℕ) (output : List Output) → has bytes output

@@ -1,4 +1,4 @@
-//! A command that reads bytes and refuses one of them.
+//! A command that reads bytes and refuses one byte value.
 
 use crate::work::Work;
 use base_data::model::refusal::ReadRefusal;
@@ -7,7 +7,7 @@ use cli_errors::exit::Error;
 use cli_errors::made::refused_value;
 use std::alloc::Global;
 
-/// Writes each byte again, except for one byte value, which it refuses.
+/// Copies each byte of the input to the output, and refuses the byte value `refused`.
 #[derive(Drop)]
 pub struct BytesBut {
     refused: u8,
@@ -17,7 +17,7 @@ pub struct BytesBut {
 impl BytesBut {
     ghost use Rattle.std.specs.Prelude.{◌≡◌};
 
-    /// Creates the command before its first byte.
+    /// Creates the command in the state before the first byte.
     pub fn new(refused: u8) -> BytesBut
         ensures { result ≡ record { refused = refused; count = 0 } }
     {
@@ -42,13 +42,8 @@ impl Work for BytesBut {
         true
     }
 
-    fn feed<K: Sink>(
-        &mut self,
-        alloc: Global,
-        buffered: &[u8],
-        out: &mut K,
-    ) -> Result<usize, Error> {
-        let byte = buffered[0];
+    fn feed<K: Sink>(&mut self, alloc: Global, chunk: &[u8], out: &mut K) -> Result<usize, Error> {
+        let byte = chunk[0];
         if byte == self.refused {
             return Err(Error::Exit(refused_value(alloc, self.count, ReadRefusal::Compressed)));
         }

@@ -8,9 +8,9 @@ ghost use Rattle.run_loop.specs.examples.Small.{reporting, lines, bytes_but};
 use crate::examples::{BytesBut, Lines, Reporting};
 use crate::work::environment_is_known;
 
-/// Proves that the small commands are lawful for all tasks. Therefore they return a status of the
-/// environment only if the environment caused it. This is a lemma function: it does nothing at run
-/// time.
+/// Proves that the small commands are lawful for all tasks. A small command returns a status of the
+/// environment only if the environment caused the status. `small_commands_report_environment` is a
+/// lemma function, which does nothing at run time.
 pub fn small_commands_report_environment()
     ensures reporting { ((a : List ℕ) → AreLawfulAt reporting a) × ReportsEnvironment reporting }
     ensures lines { ((a : Unit {0}) → AreLawfulAt lines a) × ReportsEnvironment lines }

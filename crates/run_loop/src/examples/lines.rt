@@ -10,15 +10,15 @@ use std::alloc::Global;
 
 const LINE_FEED: u8 = 10;
 
-/// Appends a byte. Fails with `Memory` if memory runs out.
+/// Appends a byte to the line. If memory runs out, fails with `Memory`.
 fn keep(line: &mut Vec<u8>, byte: u8) -> Result<(), Memory>
     ensures { OnOk result (line.new.items ≡ line.old.items ++ byte ∷ []) }
 {
     Ok(line.push(byte)?)
 }
 
-/// Writes each line again. Buffers the bytes after the last line feed, and writes them with a line
-/// feed at the end.
+/// Copies each line of the input to the output. The bytes after the last line feed are buffered,
+/// and are written with a line feed at the end of the input.
 #[derive(Drop)]
 pub struct Lines {
     rest: Vec<u8>,
@@ -27,7 +27,7 @@ pub struct Lines {
 impl Lines {
     ghost use Rattle.std.specs.Prelude.{◌≡◌, []};
 
-    /// Creates the command before its first byte.
+    /// Creates the command in the state before the first byte.
     pub fn new(alloc: Global) -> Lines
         ensures { result.rest.items ≡ [] }
     {
@@ -53,13 +53,8 @@ impl Work for Lines {
         true
     }
 
-    fn feed<K: Sink>(
-        &mut self,
-        _alloc: Global,
-        buffered: &[u8],
-        out: &mut K,
-    ) -> Result<usize, Error> {
-        let byte = buffered[0];
+    fn feed<K: Sink>(&mut self, _alloc: Global, chunk: &[u8], out: &mut K) -> Result<usize, Error> {
+        let byte = chunk[0];
         keep(&mut self.rest, byte)?;
         if byte != LINE_FEED {
             return Ok(1);

@@ -5,7 +5,7 @@ use base_io::{Sink, write_all};
 use cli_errors::exit::Error;
 use std::alloc::Global;
 
-/// Writes its text.
+/// Writes a fixed text to the output.
 #[derive(Drop)]
 pub struct Reporting<'a> {
     pub text: &'a [u8],
@@ -30,7 +30,7 @@ impl Work for Reporting<'_> {
     fn feed<K: Sink>(
         &mut self,
         _alloc: Global,
-        _buffered: &[u8],
+        _chunk: &[u8],
         _out: &mut K,
     ) -> Result<usize, Error> {
         Ok(0)

@@ -28,7 +28,7 @@ pub fn run_reporting<S: Source, K: Sink, E: Sink>(
     run_reported(alloc, &mut Reporting { text }, input, out, err)
 }
 
-/// Writes each line again. Returns the exit status.
+/// Copies each line of the input to the output. Returns the exit status.
 pub fn run_lines<S: Source, K: Sink, E: Sink>(
     alloc: Global,
     input: &mut S,
@@ -43,7 +43,8 @@ pub fn run_lines<S: Source, K: Sink, E: Sink>(
     run_reported(alloc, &mut Lines::new(alloc), input, out, err)
 }
 
-/// Writes each byte again, except for one byte value, which it refuses. Returns the exit status.
+/// Copies each byte of the input to the output, and refuses the byte value `refused`. Returns the
+/// exit status.
 pub fn run_bytes<S: Source, K: Sink, E: Sink>(
     alloc: Global,
     refused: u8,

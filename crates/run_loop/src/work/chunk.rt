@@ -1,4 +1,4 @@
-//! Consumes a chunk of the input to its end.
+//! Feeds a whole chunk of the input to a command.
 
 ghost use Rattle.std.specs.Prelude.{◌≡◌, ◌<◌, ◌≤◌, ◌^◌, ℕ, List, length};
 ghost use Rattle.base_data.specs.model.Bytes.{AreBytes};
@@ -13,8 +13,8 @@ use base_io::Sink;
 use cli_errors::exit::Error;
 use std::alloc::Global;
 
-/// Consumes a chunk to its end, and writes the output for the items that end in it. Fails if the
-/// run ends within the chunk, if memory runs out, or if writing fails.
+/// Consumes a whole chunk, and writes the output for the items that end in the chunk. If the run
+/// ends within the chunk, memory runs out, or writing fails, `feed_chunk` fails.
 pub fn feed_chunk<W: Work, K: Sink>(
     alloc: Global,
     work: &mut W,

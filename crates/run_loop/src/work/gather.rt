@@ -1,9 +1,9 @@
-//! Collects the output for several items and writes it with one call.
+//! Collects the output for several items, and writes the collected output with one call.
 
 ghost use Rattle.std.specs.Prelude.{◌≡◌, ◌<◌, ◌+◌, ◌^◌, ℕ, List, [], length};
 ghost use Rattle.cli_spec.specs.Outcome.{Output};
 ghost use Rattle.base_io.specs.State.{change};
-ghost use Rattle.run_loop.specs.work.Gathered.{GathersOne, Gathers};
+ghost use Rattle.run_loop.specs.work.Gathered.{GathersOne, GathersSome, Gathers};
 ghost use Rattle.run_loop.specs.work.Works.{ItemsStay, FeedsSome};
 
 use crate::work::Work;
@@ -12,10 +12,10 @@ use cli_errors::exit::Error;
 use cli_spec::exit::Exit;
 use std::alloc::Global;
 
-/// If more bytes than this are collected, then they are written.
+/// If more than this many bytes are collected, then the collected bytes are written.
 const GATHERED: usize = 1 << 20;
 
-/// A sink in memory.
+/// A sink that keeps the written bytes in memory.
 #[derive(Drop)]
 struct MemorySink {
     bytes: Vec<u8>,
@@ -34,7 +34,8 @@ impl Sink for MemorySink {
     }
 }
 
-/// Consumes some of the current bytes. If an item ends with them, appends its output to a text.
+/// Consumes some of the current bytes. If an item ends with the consumed bytes, appends the output
+/// of the item to a text.
 fn gather_one<W: Work>(
     alloc: Global,
     work: &mut W,
@@ -65,6 +66,36 @@ fn gather_one<W: Work>(
     }
 }
 
+/// Consumes some of the current bytes, and appends the output to a text. If `pass` consumes bytes,
+/// several items may end in them. If not, at most one item ends in the consumed bytes.
+fn gather_some<W: Work>(
+    alloc: Global,
+    work: &mut W,
+    buffered: &[u8],
+    text: &mut MemorySink,
+) -> Result<usize, Error>
+    requires some { 0 < length buffered.now }
+    requires reads { W.commands.Reads (W.act work.old) }
+    requires has { (bytes : List ℕ) × (output : List Output) × W.has work.old bytes output
+        × (length bytes + length buffered.now < 2 ^ 63) }
+    ensures kept { W.act work.new ≡ W.act work.old }
+    ensures gathers { GathersSome W.commands (W.act work.old) (W.has work.old) (W.has work.new)
+        buffered.now text.old.bytes.items text.new.bytes.items result }
+{
+    work.laws();
+    let Some(passed) = work.pass(alloc, buffered) else {
+        return gather_one(alloc, work, buffered, text);
+    };
+    if passed.copied {
+        match text.bytes.extend_from_slice(&buffered[..passed.bytes]) {
+            Ok(()) => Ok(passed.bytes),
+            Err(_) => Err(Error::Exit(Exit::Memory)),
+        }
+    } else {
+        Ok(passed.bytes)
+    }
+}
+
 /// Consumes the current bytes to their end, or until enough output is collected.
 fn gather<W: Work>(
     alloc: Global,
@@ -81,16 +112,16 @@ fn gather<W: Work>(
     ensures gathers { Gathers W.commands (W.act work.old) (W.has work.old) (W.has work.new)
         buffered.now text.new.bytes.items result }
 {
-    let mut taken = gather_one(alloc, work, buffered, text)?;
+    let mut taken = gather_some(alloc, work, buffered, text)?;
     while taken < buffered.len() && text.bytes.len() <= GATHERED {
-        taken += gather_one(alloc, work, &buffered[taken..], text)?;
+        taken += gather_some(alloc, work, &buffered[taken..], text)?;
     }
     Ok(taken)
 }
 
-/// Consumes some of the current bytes, and writes the output for the items that end in them with
-/// one call. Returns the number of bytes consumed. Fails if the run ends, if memory runs out, or if
-/// writing fails.
+/// Consumes some of the current bytes, and writes the output for the items that end in the consumed
+/// bytes with one call. Returns the number of bytes consumed. If the run ends, memory runs out, or
+/// writing fails, `feed_some` fails.
 pub fn feed_some<W: Work, K: Sink>(
     alloc: Global,
     work: &mut W,

@@ -1,4 +1,4 @@
-//! A run, and the line on err that reports its exit reason.
+//! A run, and the line on standard error that reports the exit reason of the run.
 
 ghost use Rattle.std.specs.Prelude.{◌≡◌, []};
 ghost use Rattle.base_io.specs.State.{change};
@@ -11,15 +11,15 @@ use cli_errors::exit::{Error, report_exit};
 use cli_spec::status::Status;
 use std::alloc::Global;
 
-/// Returns the status of a run that reached the end of its input: 0 if it was without errors, and 1
-/// otherwise.
+/// Returns the status of a run that reached the end of its input. If the run was without errors,
+/// the status is 0. If an output has an error, the status is 1.
 fn status_of_all(ok: bool) -> Status
     ensures { result ≡ ending_status ok }
 {
     if ok { Status::AllOk } else { Status::No }
 }
 
-/// If the run ended early, writes the line of its exit reason to err. Returns the exit status.
+/// If the run ended early, writes the line of the exit reason to `err`. Returns the exit status.
 fn report<E: Sink>(alloc: Global, err: &mut E, ended: Result<bool, Error>) -> Status
     ensures { IsReported ended (change (E.state err.old) (E.state err.new)) result }
 {
@@ -30,7 +30,8 @@ fn report<E: Sink>(alloc: Global, err: &mut E, ended: Result<bool, Error>) -> St
     }
 }
 
-/// Runs the command on the input, reports on err why it ended early, and returns the exit status.
+/// Runs the command on the input and returns the exit status. If the run ends early, reports the
+/// exit reason on `err`.
 pub fn run_reported<W: Work, S: Source, K: Sink, E: Sink>(
     alloc: Global,
     work: &mut W,
@@ -50,7 +51,8 @@ pub fn run_reported<W: Work, S: Source, K: Sink, E: Sink>(
 }
 
 /// Proves that a lawful command returns a status of the environment (6 to 10) only if the
-/// environment caused it. This is a lemma function: it does nothing at run time.
+/// environment caused the status. `environment_is_known` is a lemma function, which does nothing at
+/// run time.
 pub fn environment_is_known<W: Work>()
     ensures { ReportsEnvironment W.commands }
 {}

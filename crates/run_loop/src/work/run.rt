@@ -1,4 +1,4 @@
-//! The loop over the input.
+//! The loop that reads the input in chunks.
 
 ghost use Rattle.std.specs.Prelude.{◌≡◌, [], length, vec_len, IfOk};
 ghost use Rattle.base_io.specs.State.{change};
@@ -13,20 +13,20 @@ use cli_spec::exit::Exit;
 use std::alloc::Global;
 
 /// The size in bytes of a read from the input.
-pub const CHUNK: usize = 65536;
+const CHUNK: usize = 65536;
 
-/// The length in bytes from which on an input is too long.
+/// The length in bytes from which on an input is refused as too long.
 pub const LENGTH_LIMIT: usize = 1 << 48;
 
 /// Allocates the buffer for a read from the input. Fails with `Memory` if memory runs out.
-fn new_buffer(alloc: Global) -> Result<Vec<u8>, Memory>
+pub fn new_buffer(alloc: Global) -> Result<Vec<u8>, Memory>
     ensures { IfOk result (λ buffer. vec_len buffer ≡ chunk_limit) }
 {
     Ok(vec![in alloc; 0; CHUNK]?)
 }
 
-/// Reads the input chunk by chunk from its first byte on. Writes the output for the items that end
-/// in a chunk before it requests the next chunk.
+/// Reads the input chunk by chunk from the first byte on. The output for the items that end in a
+/// chunk is written before the next chunk is requested.
 fn take_chunks<W: Work, S: Source, K: Sink>(
     alloc: Global,
     work: &mut W,
@@ -57,7 +57,7 @@ fn take_chunks<W: Work, S: Source, K: Sink>(
 }
 
 /// Runs the command on its input, or without an input if the command reads none. Returns true if no
-/// output has an error. Fails if the run ends early or if writing to out fails.
+/// output has an error. If the run ends early or writing to out fails, `run_work` fails.
 pub fn run_work<W: Work, S: Source, K: Sink>(
     alloc: Global,
     work: &mut W,

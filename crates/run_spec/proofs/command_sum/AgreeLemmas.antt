@@ -1,5 +1,5 @@
 -- If two command sets agree on the requests that the arguments make, then the specification of a
--- run by one of them implies that by the other.
+-- run by one set implies the specification by the second.
 use Rattle.std.proofs.Common.{◌≡◌, ◌⊎◌, ◌++◌, ◌∷◌, ℕ, suc, List, [], Ok, Err, inl, inr, ap}
 use Rattle.std.specs.Prelude.{◌↔◌}
 use Rattle.base_io.specs.State.{FilesState, Change, change}
@@ -12,7 +12,7 @@ use Rattle.run_spec.specs.runs.Commands.{Item, Fetches, Given, Commands, Prepare
 use Rattle.run_spec.specs.runs.RunSpec.{IsOfOutcome, RunSpec}
 use Rattle.run_spec.specs.runs.Environment.{IsWriteOrMemoryError}
 
--- The two tasks have the same outputs for an input.
+-- The tasks `a` and `b` have equal outputs for each input.
 pub record Agrees {A B : Type 0} (c : Commands A) (d : Commands B) (a : A) (b : B) : Type 0 where
   pub reads : c.Reads a ↔ d.Reads b
   pub first : (items : List Item) (bytes : List ℕ) (item : Item) (more : List ℕ)
@@ -24,7 +24,7 @@ pub record Agrees {A B : Type 0} (c : Commands A) (d : Commands B) (a : A) (b : 
   pub ends : (items : List Item) (bytes : List ℕ) (last : Reply)
       → c.Ends a items bytes last ↔ d.Ends b items bytes last
 
--- For these requests the sets request the same files and find tasks that agree.
+-- For each asked request, the sets `c` and `d` request equal files and find tasks that agree.
 pub record Agree {A B : Type 0} (c : Commands A) (d : Commands B) (Asked : Request → Type 0)
     : Type 0 where
   pub wants : (request : Request) → Asked request → (files : Fetches) (turn : ℕ) (name : List ℕ)
@@ -172,7 +172,7 @@ module _ {A B : Type 0} (c : Commands A) (d : Commands B) where
 
   -- ---- the arguments and the files
 
-  -- The same files are requested.
+  -- If two command sets request equal files, then a run fetches equal files for both.
   module _ (arguments : List (List ℕ))
       (wants : (request : Request) → Asks arguments request
       → (files : Fetches) (turn : ℕ) (name : List ℕ)
@@ -216,7 +216,7 @@ module _ {A B : Type 0} (c : Commands A) (d : Commands B) where
     }
 
   module _ (arguments : List (List ℕ)) (agreement : Agree c d (Asks arguments)) where
-    -- The other set finds a task that agrees.
+    -- The set `d` finds a task that agrees with the task of `c`.
     abbrev HasPartner : Fetches → A → Type 0
     HasPartner files a = (b : B) × Agrees c d a b × Prepares d arguments files (Ok b)
 

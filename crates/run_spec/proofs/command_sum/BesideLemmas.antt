@@ -14,8 +14,7 @@ use Rattle.run_spec.specs.command_sum.CommandSum.{IsIdleAt, AreDisjoint}
 use Rattle.run_spec.proofs.command_sum.AgreeLemmas.{Agrees, Agree, agree_back, wanted_fetches, account_too, run_spec_too}
 
 module _ {A B : Type 0} (part_by : Request → B) (c : Commands A) (d : Commands (B × A)) where
-  -- Files and tasks are those of the other commands, and the outputs for the input are those of
-  -- `d`.
+  -- The commands that request the files of `c` and have the outputs of `d`.
   abbrev beside : Commands (B × A)
   beside = record {
     Wants = c.Wants;
@@ -64,7 +63,8 @@ module _ {A B : Type 0} (part_by : Request → B) (c : Commands A) (d : Commands
   by_wanted law request files others (Err s) same h =
       law.by_wanted request files others (Err s) same h
 
-  -- A file is read, or its exit reason is the result.
+  -- If a file is read or its exit reason is the result, then the file is read or the result is the
+  -- exit reason for the extended commands.
   exit_there :
       {P : Type 0} (Fails : Exit → Type 0) (result : Result A Exit) (other : Result (B × A) Exit)
       → ((exit : Exit) → result ≡ Err exit → other ≡ Err exit)
@@ -112,7 +112,7 @@ module _ {A B : Type 0} (part_by : Request → B) (c : Commands A) (d : Commands
     from (inl inner) = inl inner
     from (inr f) = inr (fails request files exit f)
 
-  -- If each task is lawful, then the commands are.
+  -- If each task is lawful, then the extended commands are lawful.
   module _ (lawful_at : (part : B) (a : A) → AreLawfulAt c a → AreLawfulAt beside (part, a)) where
     at_act : AreLawful c → (act : B × A) → IsFound beside act → AreLawfulAt beside act
     at_act law (part, a) (request, files, (is, h)) =

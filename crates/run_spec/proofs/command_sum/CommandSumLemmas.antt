@@ -6,7 +6,7 @@ use Rattle.run_spec.specs.runs.Commands.{Fetches, Commands}
 use Rattle.run_spec.specs.runs.Lawful.{IsOnce, IsInner, IsWhole, FailsAtFile, IsFound, AreLawfulAt, AreLawful, AreInTurns}
 use Rattle.run_spec.specs.command_sum.CommandSum.{Wants, Finds, command_sum, IsIdleAt, AreDisjoint}
 
--- An exit reason of one set is one of the sum.
+-- If a set finds an exit reason, then the sum finds the exit reason.
 exit_of : {A B : Type 0} (s exit : Exit) → ◌≡◌ {A = Result A Exit} (Err s) (Err exit) → ◌≡◌ {A = Result B Exit} (Err s) (Err exit)
 exit_of s exit e = let same : s ≡ exit = cc e in ap (λ s. Err s) same
 
@@ -14,7 +14,7 @@ module _ {A B : Type 0} (c : Commands A) (d : Commands B) (disjoint : AreDisjoin
   abbrev both : Commands (A ⊎ B)
   both = command_sum c d
 
-  -- A request does not belong to both sets.
+  -- No request belongs to both sets.
   not_wanted : {P : Type 0} (request : Request) (files others : Fetches) (turn later : ℕ) (name other : List ℕ)
       → c.Wants request files turn name → d.Wants request others later other → P
   not_wanted {P} request files others turn later name other w v = from (disjoint request) where
@@ -43,7 +43,7 @@ module _ {A B : Type 0} (c : Commands A) (d : Commands B) (disjoint : AreDisjoin
     from (inl idle) = absurd (idle.unwanted others turn name w)
     from (inr idle) = absurd (idle.unfound files s h)
 
-  -- A file is read, or it ends the run.
+  -- The file is read, or the file ends the run.
   abbrev Read : {X : Type 0} → Type 0 → List ℕ → Fetches → ℕ → Result X Exit → Type 0
   Read Held name files turn result =
       Held ⊎ ((exit : Exit) × ReadsFile name (files turn name) (Err exit) × (result ≡ Err exit))

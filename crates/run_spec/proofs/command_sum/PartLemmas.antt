@@ -1,4 +1,4 @@
--- If the arguments request nothing of the other set, then each set agrees with the sum.
+-- If the arguments request nothing of one set, then the remaining set agrees with the sum.
 use Rattle.std.proofs.Common.{◌⊎◌, ℕ, List, Result, Ok, Err, inl, inr}
 use Rattle.cli_spec.specs.Outcome.{Request, Asks}
 use Rattle.cli_spec.specs.declared.exit.Exit.{Exit}
@@ -35,7 +35,7 @@ module _ {A B : Type 0} (c : Commands A) (d : Commands B) where
     from (inl idle) (inr other) = inr other
     from (inl idle) (inl other) = inl (idle_together request idle other)
 
-  -- A task of the first set agrees with the same task of the sum.
+  -- A task of the first set agrees with its image in the sum.
   first_same : (a : A) → Agrees c (command_sum c d) a (inl a)
   first_same a = record {
     reads = (λ h. h, λ h. h);

@@ -24,7 +24,8 @@ use Rattle.run_spec.proofs.runs.KnownLemmas.{lawful_at, either, exit_comes, end_
 use Rattle.run_spec.specs.exit_causes.Causes.{Tables, AreExact, Show, IsBarred, IsCaused, OnlyCaused, IfBadArguments, IfBarred, IsToBeDone, IfShown, IsDue, HasWhatIsDue}
 use Rattle.run_spec.proofs.exit_causes.TableLemmas.{bar_of, bar_found, exit_with, exit_held, end_with, end_held, shows_given, gives_shown}
 
--- If a file was read completely, then its text is all that the file map has for its name.
+-- If a file was read completely, then the text read is the whole text that the file map has for the
+-- file's name.
 read_whole :
     (contents : Option (List ℕ)) (text : List ℕ) → IsFoundOf contents (opened (whole text))
     → contents ≡ Some text
@@ -104,7 +105,8 @@ module _ {A : Type 0} (c : Commands A) (tables : Tables A) (exact : AreExact c t
       by (inr (on, closes)) = closed taken.until on closes
 
   module _ (as_known : AreAsKnown c arguments call) where
-    -- The cause, from an outcome, if the input is not known.
+    -- If the status is that of an outcome, then the status has a cause, even if the input is not
+    -- known.
     inconclusive :
         (given : Given) → MayBe c arguments call given
         → IfSome call.input.before.bytes (λ bytes. bytes ≡ given.input.bytes) → (all : Replies)
@@ -191,7 +193,8 @@ module _ {A : Type 0} (c : Commands A) (tables : Tables A) (exact : AreExact c t
   module _ (lawful : AreLawful c) (p : IsStatus c arguments call)
       (a : A)
       (any : (files : Fetches) → Prepares c arguments files (Ok a)) where
-    -- Whatever the files are, the replies are those to the input.
+    -- If `Holds` is true of the replies to the input, then `Holds` is true of the replies of each
+    -- outcome, whatever the files are.
     any_comes :
         (Holds : Status → Type 0)
         → ((given : Given) (may_be : MayBe c arguments call given) (all : Replies)
@@ -294,7 +297,7 @@ module _ {A : Type 0} (c : Commands A) (tables : Tables A) (exact : AreExact c t
   -- ---- a fault-free run
 
   module _ (input : List ℕ) (files : List File) where
-    -- The status of an outcome is due.
+    -- If the replies `all` are an outcome, then `IsDue` holds for the status of the replies.
     due_of :
         AreBytes input → (all : Replies) → Outcome c arguments (contents_of files) input all
         → IsDue c tables arguments input (known_files files) (ending_of all).status
@@ -315,7 +318,7 @@ module _ {A : Type 0} (c : Commands A) (tables : Tables A) (exact : AreExact c t
         let e : other ≡ usage = (let k : other ≡ exit = cc same in k ∙ is) in
         inl (none, ap (λ all. (ending_of all).status) m ∙ ap status_of e)
 
-    -- If a status is due, then it is that of an outcome, or the input determines it.
+    -- If `IsDue` holds for a status, then a fault-free run has the status, unless memory ran out.
     due_comes :
         (honest : IsHonest call input files) → ReportsBytes call.input
         → call.status ≢ statuses.Memory → IsDecided c arguments call

@@ -1,4 +1,5 @@
--- Bytes end with a reply that has a status if and only if `EndWith` holds for them.
+-- Bytes end with a reply that has a status if and only if `EndWith` holds for the bytes and the
+-- status.
 use Rattle.std.proofs.Common.{◌≡◌, ◌⊎◌, ℕ, List, [], length, inl, inr, refl, sym, ap, ◌∙◌, subst, arith}
 use Rattle.base_data.specs.model.Bytes.{AreBytes}
 use Rattle.base_data.specs.declared.model.refusal.ReadRefusal.{ReadRefusal}
@@ -123,7 +124,7 @@ module _ {D T E : Type 0} (language : Language D T E) where
       ends = record { trees = trees; are = refl; end = end; tail = tail; ends = ends };
     }
 
-  -- The bytes have an end with this status.
+  -- The bytes `bytes` end with a reply that has the status `status`.
   abbrev pub HasEnd : Task T E → List ℕ → Status → Type 0
   HasEnd a bytes status =
       (all : Replies) × ((ending_of all).status ≡ status)

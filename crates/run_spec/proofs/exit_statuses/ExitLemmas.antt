@@ -1,4 +1,5 @@
--- Bytes contain an exit reason with a status if and only if `ExitWith` holds for them.
+-- Bytes contain an exit reason with a status if and only if `ExitWith` holds for the bytes and the
+-- status.
 use Rattle.std.proofs.Common.{◌≡◌, ◌≢◌, ◌⊎◌, ℕ, List, [], ◌∷◌, ◌++◌, length, Err, inl, inr, refl, sym, ap, ◌∙◌, subst, arith}
 use Rattle.marshal_spec.specs.format.Stream.{EncodeAll}
 use Rattle.marshal_spec.specs.format.Tree.{Tree}
@@ -18,7 +19,8 @@ use Rattle.run_spec.specs.exit_statuses.Values.{AreEdited, IsNotEdited, Break, C
 use Rattle.run_spec.proofs.exit_statuses.ItemLemmas.{AreOutput, outputs_first, print_first}
 use Rattle.run_spec.proofs.exit_statuses.OutputLemmas.{pass_of, pass_output, pass_more, print_compared}
 
--- Values before another one are followed by the bytes of that value.
+-- If bytes are two lists of values one after another, then the first list is followed by the bytes
+-- of the second.
 pub encode_before :
     (limit : ℕ) (bytes : List ℕ) (trees more : List Tree) (rest : List ℕ)
     → EncodeAll limit bytes (trees ++ more) rest
@@ -113,7 +115,7 @@ module _ {D T E : Type 0} (language : Language D T E) where
 
   -- ---- a row of the table is an exit reason
 
-  -- The bytes contain an exit reason with this status.
+  -- The bytes contain an exit reason with the status `status`.
   abbrev pub HasExit : Task T E → List ℕ → Status → Type 0
   HasExit a bytes status =
       (exit : Exit) × (status_of exit ≡ status) × HaveExit (commands language) a bytes exit

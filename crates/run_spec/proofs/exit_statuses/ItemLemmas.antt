@@ -9,7 +9,7 @@ use Rattle.run_spec.specs.value_commands.Tasks.{items_of, IsFirstValue, commands
 use Rattle.run_spec.proofs.value_commands.PrefixLemmas.{split_of, encoded_of}
 use Rattle.run_spec.proofs.value_commands.ItemLemmas.{items_once, items_more}
 
--- One more item.
+-- If a list has `k` items, then the list with one more item has `k + 1` items.
 pub one_more : (before : List Item) (item : Item) (k : ℕ)
     → length before ≡ k → length (before ++ item ∷ []) ≡ suc k
 one_more before item k at =
@@ -17,14 +17,14 @@ one_more before item k at =
     length-append before (item ∷ []) in
     omega arith
 
--- One more value.
+-- If items are values, then the items with one more value are the values with one more value.
 items_on : (before : List Item) (earlier : List Tree) → before ≡ items_of earlier → (tree : Tree)
     → before ++ value tree ∷ [] ≡ items_of (earlier ++ tree ∷ [])
 items_on before earlier at tree =
     ap (λ items. items ++ value tree ∷ []) at ∙ sym (items_more earlier tree)
 
 module _ {D T E : Type 0} (language : Language D T E) where
-  -- These are the outputs for the values that follow the earlier ones.
+  -- The outputs are those of the values that follow the values `earlier`.
   abbrev pub AreOutput : Work T E → List Tree → List Tree → List Output → Type 0
   AreOutput work earlier [] [] = Unit {0}
   AreOutput work earlier [] (output ∷ more) = ⊥
@@ -33,7 +33,7 @@ module _ {D T E : Type 0} (language : Language D T E) where
       Outputs language work earlier tree output × AreOutput work (earlier ++ tree ∷ []) trees more
 
   module _ (a : Task T E) where
-    -- The next item is a value.
+    -- The next item of the input is always a value.
     first : (items : List Item) (bytes : List ℕ) (item : Item) (more : List ℕ)
         → (commands language).IsFirst a items bytes item more
         ↔ IsFirstValue language a.limit bytes item more
@@ -69,7 +69,7 @@ module _ {D T E : Type 0} (language : Language D T E) where
               output more,
         )
 
-    -- The first values, as items.
+    -- If the first values have outputs, then the values as items have the outputs.
     pub outputs_first :
         (bytes : List ℕ) (trees : List Tree) (output : List Output) (rest : List ℕ)
         → EncodeAll a.limit bytes trees rest → AreOutput a.work [] trees output
@@ -79,7 +79,7 @@ module _ {D T E : Type 0} (language : Language D T E) where
       all_print = print_of [] [] refl trees output print;
     }
 
-    -- The first items, as values.
+    -- If the first items have outputs, then the items are values with the outputs.
     pub print_first :
         (bytes : List ℕ) (items : List Item) (output : List Output) (rest : List ℕ)
         → OutputsFirst (commands language) a bytes items output rest

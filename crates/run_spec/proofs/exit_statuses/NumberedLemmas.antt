@@ -1,5 +1,5 @@
--- Outputs for values that depend on their numbers: what follows for the values, and the converse.
--- If items are values, the same for the outputs of items.
+-- Outputs for values that depend on the values' numbers. Outputs of a list determine properties of
+-- the values, and the properties determine outputs, also for values as items.
 use Rattle.std.proofs.Common.{◌≡◌, ℕ, suc, Bool, true, false, List, [], ◌∷◌, ◌++◌, length, inl, inr, refl, sym, ap, ◌∙◌, subst}
 use Rattle.std.specs.Prelude.{◌&&◌, ◌↔◌}
 use Rattle.std.proofs.lemmas.Bool.{and_parts}
@@ -13,7 +13,7 @@ use Rattle.run_spec.specs.exit_statuses.Numbered.{HoldsOfAll, HoldsOfSome}
 use Rattle.run_spec.proofs.exit_statuses.ItemLemmas.{one_more}
 use Rattle.run_spec.proofs.exit_statuses.OutputLemmas.{and_false}
 
--- These are the outputs for the values, the first of which has the number.
+-- The outputs are those of the values, where `number` is the number of the first value.
 abbrev pub AreOutput : (ℕ → Tree → Output → Type 0) → ℕ → List Tree → List Output → Type 0
 AreOutput OutputOf number [] [] = Unit {0}
 AreOutput OutputOf number [] (output ∷ more) = ⊥
@@ -21,11 +21,11 @@ AreOutput OutputOf number (tree ∷ trees) [] = ⊥
 AreOutput OutputOf number (tree ∷ trees) (output ∷ more) =
     OutputOf number tree output × AreOutput OutputOf (suc number) trees more
 
--- The value has an output, and `ok` states whether it is without errors.
+-- The value has an output, and `ok` states whether the output is without errors.
 abbrev pub HasOutput : (ℕ → Tree → Output → Type 0) → Bool → ℕ → Tree → Type 0
 HasOutput OutputOf ok number tree = (output : Output) × OutputOf number tree output × (output.ok ≡ ok)
 
--- If a value has an output, then `Certified` holds for it.
+-- If a value has an output, then `Certified` holds for the value.
 module _ (OutputOf : ℕ → Tree → Output → Type 0) (Certified : Bool → ℕ → Tree → Type 0)
     (holds : (ok : Bool) (number : ℕ) (tree : Tree) → HasOutput OutputOf ok number tree
     → Certified ok number tree) where
@@ -138,7 +138,7 @@ module _ {D T E A : Type 0} (language : Language D T E) (limit : ℕ) (c : Comma
     known_of (before ++ value t ∷ []) (suc k) (one_more before (value t) k at) trees output more,
   )
 
-  -- The first values, as items.
+  -- If the first values have outputs, then the values as items have the outputs.
   pub values_first :
       (bytes : List ℕ) (trees : List Tree) (output : List Output) (rest : List ℕ)
       → EncodeAll limit bytes trees rest → AreOutput OutputOf 0 trees output
@@ -148,7 +148,7 @@ module _ {D T E A : Type 0} (language : Language D T E) (limit : ℕ) (c : Comma
     all_print = print_of [] 0 refl trees output print;
   }
 
-  -- The first items, as values.
+  -- If the first items have outputs, then the items are values with the outputs.
   pub items_first :
       (bytes : List ℕ) (items : List Item) (output : List Output) (rest : List ℕ)
       → OutputsFirst c a bytes items output rest

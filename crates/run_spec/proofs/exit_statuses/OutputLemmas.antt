@@ -1,5 +1,5 @@
--- Outputs for values and for their end, by the tables: what follows for the values, and the
--- converse.
+-- Outputs for values and for the end of the input, by the tables. Outputs determine properties of
+-- the values, and the properties determine outputs.
 use Rattle.std.proofs.Common.{◌≡◌, ◌+◌, ◌<◌, ◌≤◌, Bool, true, false, List, [], ◌∷◌, ◌++◌, length, Option, Some, None, inl, inr, refl, sym, ap, ◌∙◌, subst, length-append, arith}
 use Rattle.std.specs.Prelude.{◌&&◌, ◌↔◌, IsTrue, if◌then◌else◌}
 use Rattle.std.specs.List.{AllByRecursion}
@@ -21,7 +21,7 @@ pub and_false : (b : Bool) → b && false ≡ false
 and_false true = refl
 and_false false = refl
 
--- The status if the run reaches its end.
+-- If the run ends with a final output, then the status is 0 or 1 by the flags of the outputs.
 pub output_status :
     (output : List Output) (last : Reply) (final : Output) (ok : Bool) → last ≡ outputs final
     → all_ok output && final.ok ≡ ok
@@ -30,7 +30,7 @@ output_status output last final ok is e =
     ap (λ l. (ending_of (replies output l)).status) is
     ∙ ap (λ w. if w then AllOk else No) (all_ok-snoc output final ∙ e)
 
--- The status if an exit reason ends the run.
+-- If an exit reason ends the run, then the status is that of the exit reason.
 pub exit_status :
     (output : List Output) (last : Reply) (exit : Exit) → last ≡ exits exit
     → (ending_of (replies output last)).status ≡ status_of exit
@@ -124,7 +124,7 @@ module _ {D T E : Type 0} (language : Language D T E) where
   are_edited type script compat earlier (t ∷ trees) (s ∷ output) (is, more) =
       ((s.text, is.0), are_edited type script compat (earlier ++ t ∷ []) trees output more)
 
-  -- If values have an output and one more may follow, then they satisfy `Pass`.
+  -- If values have an output and one more may follow, then the values satisfy `Pass`.
   pub pass_of :
       (work : Work T E) (trees : List Tree) (output : List Output) → AreOutput language work [] trees output
       → MayCome language work (length trees) → Pass language work trees
@@ -142,7 +142,7 @@ module _ {D T E : Type 0} (language : Language D T E) where
   lines_finish query type trees output false h e =
       (some_lines query type [] trees output h, wrong_line query type [] trees output h e)
 
-  -- If the input ends after such values, then its status is a row of the table.
+  -- If the input ends after values with an output, then the status is a row of the table.
   pub finish_of :
       (work : Work T E) (trees : List Tree) (output : List Output) (last : Reply)
       → AreOutput language work [] trees output → Finishes language work trees last
@@ -259,7 +259,7 @@ module _ {D T E : Type 0} (language : Language D T E) where
       let next = print_compared (earlier ++ t ∷ []) trees (omega (arith, fits, size)) in
       (nothing_output ∷ next.0, ((omega (arith, fits), refl), next.1))
 
-  -- If values satisfy `Pass`, then they have an output.
+  -- If values satisfy `Pass`, then the values have an output.
   pub pass_output :
       (work : Work T E) (trees : List Tree) → Pass language work trees
       → (output : List Output) × AreOutput language work [] trees output
@@ -268,7 +268,7 @@ module _ {D T E : Type 0} (language : Language D T E) where
   pass_output dumps trees h = print_dumped [] trees
   pass_output compares trees h = print_compared [] trees (omega (arith, h))
 
-  -- If values satisfy `Pass`, then one more may follow.
+  -- If values satisfy `Pass`, then one more value may follow.
   pub pass_more :
       (work : Work T E) (trees : List Tree) → Pass language work trees
       → MayCome language work (length trees)
@@ -277,7 +277,7 @@ module _ {D T E : Type 0} (language : Language D T E) where
   pass_more dumps trees h = tt
   pass_more compares trees h = h
 
-  -- Replies to values and to their end, with this status.
+  -- Some replies to the values and to the end of the input have the status `status`.
   abbrev pub IsReplied : Work T E → List Tree → Status → Type 0
   IsReplied work trees status =
       (all : Replies) × ((ending_of all).status ≡ status) × AreOutput language work [] trees all.output

@@ -1,4 +1,5 @@
--- A request and its fetched files end the run with a status if and only if `Bar` holds for them.
+-- A request and its fetched files end the run with a status if and only if `Bar` holds for the
+-- request, the files and the status.
 use Rattle.std.proofs.Common.{◌≡◌, ◌⊎◌, ℕ, List, Option, Some, Ok, Err, inl, inr, refl, sym, ap, ◌∙◌, subst}
 use Rattle.cli_spec.specs.declared.status.Status.{Status}
 use Rattle.cli_spec.specs.declared.status.Status.TheVariants.{Usage, Types, Script, ReadFault, OpenFault, TooLong}
@@ -11,7 +12,7 @@ use Rattle.run_spec.specs.exit_causes.Causes.{HaveBars}
 use Rattle.run_spec.specs.exit_statuses.Tables.{values_tables}
 use Rattle.run_spec.specs.exit_statuses.Stages.{HasNoPath, IsRefusedType, RefusesTypes, RefusesScript, IsUnread, Bar}
 
--- The status of a file that was not read.
+-- The status can be that of a file that was not read.
 abbrev pub IsOfFile : Status → Type 0
 IsOfFile status = (status ≡ ReadFault) ⊎ ((status ≡ OpenFault) ⊎ (status ≡ TooLong))
 
@@ -45,7 +46,8 @@ file_bar P Unread at_read at_open at_long name found exit fault so =
 module _ {D T E : Type 0} (language : Language D T E) where
   -- ---- FILE and TYPE
 
-  -- An exit reason is that of the file, or the contents of the file or the type are refused.
+  -- If reading the type gives an exit reason, then the file gave the exit reason, or the file's
+  -- contents or the type are refused.
   pub type_exit :
       (P : Exit → Type 0) (file : List ℕ → Found) (name : List ℕ) (type : AskedType) (exit : Exit)
       → ReadsTypeOf language file (name, type) (Err exit)
@@ -61,7 +63,8 @@ module _ {D T E : Type 0} (language : Language D T E) where
   type_exit P file name type exit (Ok text, read, (Ok d, reads, (refusal, refuses, e))) of_file of_type =
       of_type exit text (ap status_of e) read (inr (d, refusal, reads, refuses))
 
-  -- If they are refused, then there is such an exit reason.
+  -- If the file's contents or the type are refused, then there is an exit reason with the status
+  -- `Types`.
   pub refused_exit :
       (file : List ℕ → Found) (name : List ℕ) (type : AskedType) (text : List ℕ)
       → file name ≡ opened (whole text) → IsRefusedType language text type
@@ -239,7 +242,7 @@ module _ {D T E : Type 0} (language : Language D T E) where
   path_work (compare most) files none = absurd none
   path_work (own request) files none = absurd none
 
-  -- An exit reason with this status is found.
+  -- The request and its files lead to an exit reason with the status `status`.
   abbrev pub HasExitBefore : Request → Fetches → Status → Type 0
   HasExitBefore request files status =
       (exit : Exit) × (status_of exit ≡ status) × Finds language request files (Err exit)

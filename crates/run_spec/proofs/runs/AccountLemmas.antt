@@ -1,4 +1,4 @@
--- The specification of a run by lawful commands follows from its account.
+-- The specification of a run by lawful commands follows from the account of the run.
 use Rattle.run_spec.specs.runs.CommandLaws.{ArePromised}
 use Rattle.run_spec.specs.runs.Commands.{Commands}
 use Rattle.run_spec.specs.runs.Lawful.{AreLawful}

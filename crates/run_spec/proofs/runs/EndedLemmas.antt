@@ -1,6 +1,5 @@
--- If a run ended with status 0 or 1, then there are contents of input and files that the
--- environment may have provided (`MayBe`). An outcome of these contents has the output and the
--- status of the run.
+-- If a run ended with status 0 or 1, then the environment may have provided (`MayBe`) some contents
+-- of input and files. An outcome of these contents has the output and the status of the run.
 use Rattle.std.proofs.Common.{◌≡◌, ◌⊎◌, ℕ, List, ◌++◌, Some, inl, inr, refl, sym, ap, ◌∙◌, append-nil}
 use Rattle.std.proofs.lemmas.List.{append_cancel_left}
 use Rattle.cli_spec.specs.declared.status.Status.{Status}
@@ -15,7 +14,7 @@ use Rattle.run_spec.specs.runs.Given.{TakesFrom, IsFoundOf}
 use Rattle.run_spec.specs.runs.Environment.{WritesLine}
 use Rattle.run_spec.proofs.runs.SettledLemmas.{exit_status}
 
--- The status is 0 or 1: nothing ended the run early.
+-- The status is 0 or 1, and nothing ended the run early.
 abbrev pub IsEnd : Status → Type 0
 IsEnd status = (status ≡ statuses.AllOk) ⊎ (status ≡ statuses.No)
 
@@ -72,13 +71,13 @@ pub held :
 held contents other (rest, takes) =
     takes.prefix ∙ (ap (λ rest. other ++ rest) (takes.ends refl) ∙ append-nil other)
 
--- If the end of the input was reached, then all of it was read.
+-- If the end of the input was reached, then the whole input was read.
 pub taken_whole : (taken : Taken) (bytes rest : List ℕ) → taken.until ≡ at_end
     → TakesFrom bytes taken rest → bytes ≡ taken.bytes
 taken_whole taken bytes rest ended takes =
     takes.prefix ∙ (ap (λ rest. taken.bytes ++ rest) (takes.ends ended) ∙ append-nil taken.bytes)
 
--- The written text is unique.
+-- If `out` is known and a run wrote two texts, then the texts are equal.
 pub write_once : (call : Call) (text write : List ℕ) → HasWritten call text → Writes call.out write
     → text ≡ write
 write_once call text write has writes =

@@ -58,7 +58,7 @@ line_stays [] line more later h = absurd h
 line_stays (b ∷ bytes) [] more later h = (h.0, ap (λ x. x ++ later) h.1)
 line_stays (b ∷ bytes) (c ∷ line) more later h = (h.0, h.1, line_stays bytes line more later h.2)
 
--- If a line is repeated, then it is not refused.
+-- If a line is repeated, then the line is not refused.
 line_disjoint : (bytes line more rest : List ℕ) → IsLine bytes line more → IsFine line → bytes ≡ 255 ∷ rest → ⊥
 line_disjoint [] line more rest h fine e = h
 line_disjoint (b ∷ bytes) [] more rest h fine e =
@@ -94,7 +94,7 @@ lawful_at a = record {
 
 -- ---- the file
 
--- The file was read completely, or it ends the run.
+-- The file was read completely, or the file ends the run.
 abbrev IsRead : Fetches → Result Bool Exit → ℕ → List ℕ → Type 0
 IsRead files result turn name = IsWhole (files turn name)
     ⊎ ((exit : Exit) × ReadsFile name (files turn name) (Err exit) × (result ≡ Err exit))
@@ -142,7 +142,7 @@ lawful = record {
   at = λ a found. lawful_at a;
 }
 
--- The file is read, or it ends the run.
+-- The file is read, or the file ends the run.
 abbrev IsReadIn : Fetches → Result Bool Exit → ℕ → List ℕ → Type 0
 IsReadIn files result turn name = ((bytes : List ℕ) × (files turn name ≡ opened (whole bytes)))
     ⊎ ((exit : Exit) × ReadsFile name (files turn name) (Err exit) × (result ≡ Err exit))

@@ -1,6 +1,6 @@
 -- If the input failed or was too long, then the bytes read contain no exit reason, and the output
--- for their items is written. If a file failed or was too long, then no input was read and nothing
--- is written.
+-- for the items of the bytes is written. If a file failed or was too long, then no input was read
+-- and nothing is written.
 use Rattle.std.proofs.Common.{◌≡◌, ◌⊎◌, ℕ, List, [], ◌++◌, Some, Result, Ok, Err, inl, inr, sym, ap, ◌∙◌, subst, append-nil}
 use Rattle.cli_spec.specs.declared.status.Status.{Status}
 use Rattle.cli_spec.specs.declared.status.Status.TheVariants as statuses
@@ -19,7 +19,7 @@ use Rattle.run_spec.proofs.runs.FaultLemmas.{file_read, file_long}
 use Rattle.run_spec.proofs.runs.OnceLemmas.{prepares_once}
 use Rattle.run_spec.proofs.runs.SettledLemmas.{IsOuter, reply_inside, exit_status, Cause, by_reply, by_file, by_input, cause_of}
 
--- A status of the environment for incomplete bytes.
+-- The status is 6 or 10, which the environment causes if bytes are incomplete.
 abbrev IsSplit : Status → Type 0
 IsSplit status = (status ≡ statuses.ReadFault) ⊎ (status ≡ statuses.TooLong)
 
@@ -35,7 +35,7 @@ not_memory : IsSplit statuses.Memory → ⊥
 not_memory (inl e) = cc e
 not_memory (inr e) = cc e
 
--- If a file has such a status, then it was opened.
+-- If a file leads to status 6 or 10, then the file was opened.
 file_split :
     (name : List ℕ) (found : Found) (exit : Exit) → ReadsFile name found (Err exit)
     → IsSplit (status_of exit) → (taken : Taken) × (found ≡ opened taken)
@@ -44,7 +44,8 @@ file_split name found exit fault (inr e) = let ends = file_long name found exit 
 
 module _ {A : Type 0} (c : Commands A) (arguments : List (List ℕ)) (call : Call) (lawful : AreLawful c)
     (a : Account c arguments call) (split : IsSplit call.status) where
-  -- All output is written, and the line of the final reply, which follows from what was provided.
+  -- All output and the line of the final reply are written, and the final reply follows from what
+  -- was provided.
   record Ended : Type 0 where
     pub last : Reply
     pub outcome : RunReplies c arguments a.given (replies a.output last)
@@ -73,7 +74,8 @@ module _ {A : Type 0} (c : Commands A) (arguments : List (List ℕ)) (call : Cal
           err = line.0;
         }
 
-  -- If the final reply is an exit reason, then the texts before it and its line are written.
+  -- If the final reply is an exit reason, then the texts before the exit reason and its line are
+  -- written.
   module _ (exit : Exit) (is : ended.last ≡ exits exit) where
     texts_written : Writes call.out (texts_of a.output)
     texts_written =
@@ -91,7 +93,7 @@ module _ {A : Type 0} (c : Commands A) (arguments : List (List ℕ)) (call : Cal
       err = subst (λ last. Writes call.err (ending_of (replies a.output last)).err) is ended.err;
     }
 
-  -- The input ended for this reason.
+  -- If the input ended for the exit reason, then the input caused the status.
   fails_by_input :
       (exit : Exit) → ended.last ≡ exits exit → fault_of a.given.input.until ≡ Some exit
       → IsOutputFirst c arguments a.given a.output → FailsByInput c arguments call
@@ -131,7 +133,7 @@ module _ {A : Type 0} (c : Commands A) (arguments : List (List ℕ)) (call : Cal
       by (inl same) = with_all same none
       by (inr b) = by_unasked b.no_more
 
-  -- A file ended for this reason before a byte of the input was read.
+  -- If a file ended for the exit reason before the input was read, then the file caused the status.
   fails_by_file :
       (request : Request) → Asks arguments request → (exit : Exit)
       → Prepares c arguments a.given.files (Err exit)

@@ -1,4 +1,5 @@
--- What the status reports about a failed operation, and what follows from such a status.
+-- What the status reports about a failed operation, and the consequences of a status for failed
+-- operations.
 use Rattle.std.proofs.Common.{◌≡◌, ◌⊎◌, ◌<◌, ◌≤◌, ◌^◌, ℕ, suc, Bool, true, false, List, Option, Some, None, IfSome, Result, Ok, Err, inl, inr, refl, sym, ap, ◌∙◌, subst, length, arith}
 use Rattle.std.specs.Prelude.{IsSomeAnd}
 use Rattle.std.proofs.lemmas.Option.{IfSome_then}
@@ -27,7 +28,7 @@ use Rattle.run_spec.proofs.runs.SettledLemmas.{Goes, IsOuter, reply_inside, exit
 not_less : (a b : ℕ) → b ≡ a → a < b → ⊥
 not_less a b e less = omega arith
 
--- Why the bytes are incomplete, given the status of the exit reason.
+-- If the exit reason has status 6, then the bytes ended at a fault.
 read_end :
     (u : InputEnd) (exit : Exit) → fault_of u ≡ Some exit → status_of exit ≡ statuses.ReadFault
     → u ≡ at_fault
@@ -48,8 +49,7 @@ long_end at_fault exit f e =
 long_end at_length exit f e = refl
 long_end unasked exit f e = absurd (cc f)
 
--- If the exit reason of a file has the status, then the file was opened, and its bytes ended for
--- this reason.
+-- The file was opened, and the bytes of the file ended for the reason `end`.
 pub record EndsSo (found : Found) (end : InputEnd) : Type 0 where
   pub taken : Taken
   pub is : found ≡ opened taken
@@ -77,7 +77,7 @@ file_long name failed exit fault e =
     let no : statuses.OpenFault ≡ statuses.TooLong = sym (ap status_of fault) ∙ e in absurd (cc no)
 file_long name unfetched exit fault e = absurd fault
 
--- The length of a file in the file map, if many bytes of it were read.
+-- If 2^48 bytes or more of a file were read, then the file has 2^48 bytes or more in the file map.
 known_long :
     (contents : Option (List ℕ)) (taken : Taken) → IsFoundOf contents (opened taken)
     → 2 ^ 48 ≤ length taken.bytes → IsSomeAnd contents (λ bytes. 2 ^ 48 ≤ length bytes)
@@ -228,12 +228,12 @@ module _ {A : Type 0} (c : Commands A) (arguments : List (List ℕ)) (call : Cal
           inl (IfSome_then call.input.before.bytes may_be.input.known
           (λ bytes t. not_shorter bytes given.input t.0 t.1 long))
 
-    -- The run ends because the file was not read.
+    -- The run ends because the file with the name `name` was not read.
     abbrev ExitsSo : ℕ → List ℕ → Type 0
     ExitsSo turn name = (exit : Exit) × ReadsFile name (given.files turn name) (Err exit)
         × (all ≡ stopped exit)
 
-    -- If a requested file is not read completely, then it ends the run.
+    -- If a requested file is not read completely, then the file ends the run.
     fault_outputs :
         (turn : ℕ) (name : List ℕ) → IsWanted c arguments given.files turn name
         → (IsWhole (given.files turn name) → ⊥)
@@ -404,7 +404,7 @@ module _ {A : Type 0} (c : Commands A) (arguments : List (List ℕ)) (call : Cal
       settled c arguments call status (λ s. s ≡ statuses.OpenFault)
       (λ given may_be all outcome. opens_print given may_be all outcome less)
 
-  -- A failed operation is reported.
+  -- If a run has an account, then failed operations are reported.
   pub reports_faults : Account c arguments call → ReportsFaults call
   reports_faults a = record {
     reads = reports_read_fault (some_outcome c arguments call a);

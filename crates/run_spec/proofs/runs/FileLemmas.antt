@@ -129,7 +129,7 @@ module _ {A : Type 0} (c : Commands A) (arguments : List (List ℕ)) (files : Ch
       ∙ map_at turn (le_before turn f.turns fits)
 
   module _ (count : FilesState → ℕ) where
-    -- If a count increased, then it did so in a turn.
+    -- If a count increased over the run, then the count increased in some turn.
     pub rose_turn :
         count files.before < count files.after
         → (turn : ℕ) × (turn < f.turns) × (count (f.state turn) < count (f.state (suc turn)))
@@ -139,7 +139,7 @@ module _ {A : Type 0} (c : Commands A) (arguments : List (List ℕ)) (files : Ch
         (subst (λ s. count files.before < count s) (sym f.ends) less))
 
   module _ (turn : ℕ) (fits : turn < f.turns) where
-    -- If an operation failed in a turn, then it failed in the run.
+    -- If an operation failed in a turn, then the operation failed in the run.
     pub opening_rose :
         RoseOrLast (f.state turn).open_faults (f.state (suc turn)).open_faults
         → RoseOrLast files.before.open_faults files.after.open_faults
@@ -191,7 +191,8 @@ module _ {A : Type 0} (c : Commands A) (arguments : List (List ℕ)) (files : Ch
         (one_request arguments v.request w.request v.asks w.asks) v.wants)
 
     module _ (turn : ℕ) (name : List ℕ) (wanted : IsWanted c arguments found turn name) where
-      -- A requested file is fetched in its turn, or memory ran out before.
+      -- If a file is requested in a turn, then the file is fetched in the turn, or memory ran out
+      -- before.
       pub fetched_in : Fetched (step turn) name (found turn name) ⊎ (found turn name ≡ unfetched)
       fetched_in = go (f.each turn (f.all turn name wanted)) where
         go : FetchesIn c arguments (step turn) found turn
@@ -201,7 +202,7 @@ module _ {A : Type 0} (c : Commands A) (arguments : List (List ℕ)) (files : Ch
             (name_once turn other name also wanted) fetched)
         go (inr (same, none)) = inr (none name wanted)
 
-      -- The result agrees with what the file map has for the name.
+      -- If the file map is known, then the result of a fetch agrees with the map.
       pub found_in :
           (all : List File) → files.before.map ≡ Some all
           → IsFoundOf (contents_of all name) (found turn name)
@@ -237,7 +238,8 @@ module _ {A : Type 0} (c : Commands A) (arguments : List (List ℕ)) (files : Ch
             (fetched.known e)
         go (inr none) = let no : missing ≡ unfetched = sym e ∙ none in absurd (cc no)
 
-      -- The name of the last fault, if nothing is requested after it.
+      -- If a file failed to open and nothing is requested after the file, then the last open fault
+      -- names the file.
       pub fault_named :
           ((later : ℕ) (other : List ℕ) → turn < later → IsWanted c arguments found later other → ⊥)
           → found turn name ≡ failed → files.after.last_open_fault ≡ Some name
@@ -298,7 +300,7 @@ not_shorter bytes taken rest t long =
     let size : length bytes ≡ length taken.bytes + length rest =
     ap length t.prefix ∙ length-append taken.bytes rest in omega (arith, size, long)
 
--- If a file was read completely, then it has the known contents.
+-- If a file was read completely, then the result has the known contents.
 pub whole_known :
     (contents : Option (List ℕ)) (found : Found) → IsFoundOf contents found → IsWhole found
     → found ≡ found_of contents

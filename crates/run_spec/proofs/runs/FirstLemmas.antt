@@ -1,5 +1,5 @@
--- The output for some first items is a prefix of the outcome's output: runs in which memory ran
--- out, or `out` or `err` failed.
+-- The output for some first items is a prefix of the outcome's output. The lemmas are for runs in
+-- which memory ran out, or `out` or `err` failed.
 use Rattle.std.proofs.Common.{◌≡◌, ◌⊎◌, ℕ, List, [], ◌∷◌, ◌++◌, Result, Ok, Err, inl, inr, refl, sym, ap, ◌∙◌, subst, append_assoc, append-nil}
 use Rattle.std.specs.Prelude.{MatchResult}
 use Rattle.base_data.specs.model.Bytes.{AreBytes}
@@ -25,7 +25,7 @@ use Rattle.run_spec.proofs.runs.KnownLemmas.{lawful_at}
 
 module _ {A : Type 0} (c : Commands A) (a : A) (law : AreLawfulAt c a) where
   -- If no further item can have an output, then the output for some first items is a prefix of the
-  -- output.
+  -- whole output.
   output_prefix :
       (before : List Item) (bytes : List ℕ) (items others : List Item) (rest other : List ℕ)
       (output known : List Output) → AreBytes bytes
@@ -84,7 +84,7 @@ module _ {A : Type 0} (c : Commands A) (arguments : List (List ℕ)) (call : Cal
   are_bytes : AreBytes input
   are_bytes = rw ok.input_known at reports
 
-  -- The items are first items of the known input.
+  -- If items are first items of the input read, then the items are first items of the known input.
   there :
       (a : A) → Prepares c arguments account.given.files (Ok a) → (items : List Item) (output : List Output)
       (rest : List ℕ) → OutputsFirst c a account.given.input.bytes items output rest
@@ -152,7 +152,7 @@ module _ {A : Type 0} (c : Commands A) (arguments : List (List ℕ)) (call : Cal
           paced.holds.items paced.before paced.holds.rest paced.buffered paced.holds.first)))
       by (inr b) = items_prefix a p reads b.items account.output b.rest b.first
 
-  -- With the next text it is still a prefix.
+  -- The output with the next text is a prefix of the outcome's output.
   next_prefix :
       (next : Output)
       → OutputsOfFirst c arguments account.given (account.output ++ next ∷ [])

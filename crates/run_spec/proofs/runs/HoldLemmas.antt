@@ -38,7 +38,7 @@ module _ {A : Type 0} (c : Commands A) (a : A) (lawful : AreLawfulAt c a) where
     at = lawful.exit_stays h.items h.rest later exit h.at;
   }
 
-  -- If the first bytes contain an exit reason, then all bytes contain it.
+  -- If the first bytes contain an exit reason, then all bytes contain the exit reason.
   pub hold_all :
       (n : ℕ) (bytes : List ℕ) (exit : Exit)
       → HaveExit c a (take n bytes) exit → HaveExit c a bytes exit
@@ -56,7 +56,7 @@ module _ {A : Type 0} (c : Commands A) (a : A) (lawful : AreLawfulAt c a) where
       (items : List Item) (rest : List ℕ) → GoesOn c a items rest → IsStuck c a lawful items rest
   on_stuck items rest on item more output first outputs = on.no_item item more first
 
-  -- There is at most one exit reason.
+  -- Bytes contain at most one exit reason.
   pub hold_once : (bytes : List ℕ) → AreBytes bytes → IsOnce (HaveExit c a bytes)
   hold_once bytes are_bytes exit other h k =
       let rest = split_bytes c a lawful [] bytes h.items h.rest are_bytes h.first.split in
@@ -68,7 +68,7 @@ module _ {A : Type 0} (c : Commands A) (a : A) (lawful : AreLawfulAt c a) where
       (subst (λ r. c.Exits a h.items r other) (sym one.1)
       (subst (λ i. c.Exits a i k.rest other) (sym one.0) k.at))
 
-  -- If the run needs more bytes, then there is no exit reason.
+  -- If the run needs more bytes after `bytes`, then `bytes` contain no exit reason.
   pub hold_or_on :
       (bytes : List ℕ) (exit : Exit) → AreBytes bytes → HaveExit c a bytes exit
       → (items : List Item) (output : List Output) (rest : List ℕ)

@@ -34,13 +34,13 @@ less_later n m less = omega arith
 
 module _ {A : Type 0} (c : Commands A) (lawful : AreLawful c) (turns : AreInTurns c)
     (request : Request) (files others : Fetches) where
-  -- The files that are requested before a turn are the same.
+  -- The files `files` and `others` agree on each file that is requested before the turn.
   abbrev pub Agree : ℕ → Type 0
   Agree turn = (earlier : ℕ) (name : List ℕ) → earlier < turn
       → c.Wants request files earlier name → files earlier name ≡ others earlier name
 
-  -- If the earlier files agree, then a name that the others request in this turn or before is
-  -- requested too.
+  -- If the earlier files agree, then a name that is requested with `others` is requested with
+  -- `files`.
   pub wanted_too :
       (turn : ℕ) → Agree turn → (earlier : ℕ) (name : List ℕ) → earlier < suc turn
       → c.Wants request others earlier name → c.Wants request files earlier name
@@ -99,7 +99,7 @@ module _ {A : Type 0} (c : Commands A) (arguments : List (List ℕ)) (call : Cal
   module _ (given : Given) (may_be : MayBe c arguments call given) (all : List File)
       (map : call.files.before.map ≡ Some all) (request : Request) (asks : Asks arguments request)
       (found : Result A Exit) (finds : c.Finds request given.files found) where
-    -- A file that is requested before the turn, by the known contents too, was not read, and this
+    -- A file that is requested before the turn, also by the known contents, was not read, which
     -- ended the run.
     record IsFaultBefore (turn : ℕ) : Type 0 where
       pub earlier : ℕ
@@ -151,7 +151,7 @@ module _ {A : Type 0} (c : Commands A) (arguments : List (List ℕ)) (call : Cal
           (found_there turn name wants) (measured_there turn name wants) exit fault;
     }
 
-    -- A file that is requested in a turn has its known contents, or it was not read.
+    -- A file that is requested in a turn has its known contents, or was not read.
     read_there :
         (turn : ℕ) (name : List ℕ) → c.Wants request given.files turn name
         → (given.files turn name ≡ known_files all turn name)
@@ -175,7 +175,7 @@ module _ {A : Type 0} (c : Commands A) (arguments : List (List ℕ)) (call : Cal
     agree_or : (turn : ℕ) → Agrees turn ⊎ IsFaultBefore turn
     agree_or zero = inl (λ earlier name less wants. absurd (omega arith))
     agree_or (suc turn) = step (agree_or turn) where
-      -- If nothing was fetched, then nothing is requested.
+      -- If nothing was fetched in a turn, then nothing is requested in the turn.
       unread :
           (name : List ℕ) → c.Wants request given.files turn name
           → given.files turn name ≡ unfetched → ⊥
@@ -242,7 +242,8 @@ module _ {A : Type 0} (c : Commands A) (arguments : List (List ℕ)) (call : Cal
   fault_short contents exit short (inr (long, (bytes, is, many))) =
       let few = short bytes is in absurd (omega (arith, few, many))
 
-  -- A request such that this holds of its task and of its status.
+  -- If `Holds` holds for the status of each run that `asked` requests, then it holds for the status
+  -- of each run of the arguments.
   module _ (Holds : Status → Type 0) (asked : Request) (asks' : Asks arguments asked)
       (comes : (given : Given) → MayBe c arguments call given → (found : Result A Exit)
       → c.Finds asked given.files found → (all : Replies) → Goes c given all found
@@ -282,7 +283,8 @@ module _ {A : Type 0} (c : Commands A) (arguments : List (List ℕ)) (call : Cal
           go given may_be found finds all m =
               at (agree_or given may_be known.files known.map known.wanted.request known.wanted.asks found
               finds (suc turn)) where
-                -- The file was not read completely.
+                -- The known contents and the fetched result of the file disagree, because the file
+                -- is too long.
                 not_agree :
                     Agree c lawful turns known.wanted.request given.files (known_files known.files) (suc turn)
                     → ⊥

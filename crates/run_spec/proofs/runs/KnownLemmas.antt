@@ -28,11 +28,11 @@ prefix_bytes prefix more h =
     subst AreBytes (take-append_seam prefix more)
     (All-take (λ b. b < 256) (length prefix) (prefix ++ more) h)
 
--- A status that the environment causes, or that too many bytes cause.
+-- The environment or too many bytes caused the status.
 abbrev pub IsFaultOrLong : Status → Type 0
 IsFaultOrLong status = IsEnvironment status ⊎ (status ≡ statuses.TooLong)
 
--- If a file is short enough, then its fault is a status of the environment.
+-- If a file is short enough, then the environment caused the status of the file's fault.
 pub short_faults :
     (all : List File) → AreShort all → (name : List ℕ) (exit : Exit)
     → IsFault (contents_of all name) exit → IsEnvironment (status_of exit)
@@ -62,7 +62,8 @@ module _ {A : Type 0} (c : Commands A) (arguments : List (List ℕ)) (call : Cal
   AreWhole request files =
       (turn : ℕ) (name : List ℕ) → c.Wants request files turn name → IsWhole (files turn name)
 
-  -- Either all requested files are read completely, or one of them is not and ends the run.
+  -- All requested files are read completely, or one requested file is not read completely and ends
+  -- the run.
   wholes_or_fails :
       (request : Request) (files : Fetches) (found : Result A Exit) → c.Finds request files found
       → AreWhole request files ⊎ FailsAtFile c request files found
@@ -149,8 +150,8 @@ module _ {A : Type 0} (c : Commands A) (arguments : List (List ℕ)) (call : Cal
   either (inl h) = h
   either (inr write_or_memory_error) = inr (inr (inr write_or_memory_error))
 
-  -- If the task leads to such a status, and a file's fault has one too, then the status of the run
-  -- is such a status.
+  -- If `Holds` is true of the task's statuses and of the statuses of file faults, then `Holds` is
+  -- true of the run's status.
   module _ (Holds : Status → Type 0) (all : List File) (map : call.files.before.map ≡ Some all) (a : A)
       (prepared : Prepares c arguments (known_files all) (Ok a))
       (may : (name : List ℕ) (exit : Exit) → IsFault (contents_of all name) exit → Holds (status_of exit))
@@ -193,7 +194,7 @@ module _ {A : Type 0} (c : Commands A) (arguments : List (List ℕ)) (call : Cal
       measured : (u : InputEnd) → taken.until ≡ u → IsMeasured u (length taken.bytes)
       measured u e = subst (λ u. IsMeasured u (length taken.bytes)) e took.measured
 
-      -- The exit reason that ends the replies is one of the input.
+      -- If an exit reason ends the replies, then the input contains the exit reason.
       exit_there :
           (exit : Exit) → c.Exits a s.items s.rest exit
           → HaveExit c a taken.bytes exit × HaveExit c a bytes exit
@@ -205,7 +206,8 @@ module _ {A : Type 0} (c : Commands A) (arguments : List (List ℕ)) (call : Cal
                 (hold_stays c a law taken.bytes taken_prefix.0 exit here),
           )
 
-      -- If the input contains an exit reason, then the replies end with it, or an operation failed.
+      -- If the input contains an exit reason, then the replies end with the exit reason, or an
+      -- operation failed.
       pub exit_comes :
           (exit : Exit) → HaveExit c a (take (2 ^ 48) bytes) exit
           → ((ending_of all).status ≡ status_of exit) ⊎ IsEnvironment (ending_of all).status
@@ -239,7 +241,8 @@ module _ {A : Type 0} (c : Commands A) (arguments : List (List ℕ)) (call : Cal
             (hold_once c a law bytes are_bytes other exit (exit_there other at).1 in_all))
         go (inr (on, closes)) = closed taken.until refl on closes
 
-      -- If the input ends with a reply, then the replies end with it, or an operation failed.
+      -- If the input ends with a reply, then the replies end with the status of the reply, or an
+      -- operation failed.
       pub end_comes :
           (known_all : Replies) → length bytes < 2 ^ 48
           → HoldEnd c a bytes known_all.output known_all.last
@@ -275,8 +278,8 @@ module _ {A : Type 0} (c : Commands A) (arguments : List (List ℕ)) (call : Cal
             h.items known_all.output h.rest h.first h.goes_on)
         go (inr (on, closes)) = closed taken.until refl on closes
 
-      -- If nothing ends the run in the bytes that can be read, and there are too many, then the
-      -- input is too long.
+      -- If nothing ends the run in the bytes that can be read, and the input has 2^48 bytes or
+      -- more, then the input is too long.
       pub long_comes :
           (output : List Output) → 2 ^ 48 ≤ length bytes
           → HaveNoExit c a (take (2 ^ 48 + 65535) bytes) output
@@ -290,7 +293,8 @@ module _ {A : Type 0} (c : Commands A) (arguments : List (List ℕ)) (call : Cal
             let size : length bytes ≡ length taken.bytes = ap length (all_taken e) in
             let few = measured at_end e in omega (arith, size, few, many)
 
-        -- The bytes that were read are a prefix of them.
+        -- If the bytes that were read are few enough, then they are a prefix of the first `2 ^ 48 +
+        -- 65535` bytes.
         in_prefix : length taken.bytes < 2 ^ 48 + 65536 → (more : List ℕ) × (prefix ≡ taken.bytes ++ more)
         in_prefix few = (
           take (2 ^ 48 + 65535 - length taken.bytes) taken_prefix.0,

@@ -7,7 +7,7 @@ pub no_bytes : (xs : List ℕ) → true ≡ (length xs == 0) → xs ≡ []
 no_bytes [] e = refl
 no_bytes (x ∷ xs) e = let none : length (x ∷ xs) ≡ 0 = eqb-true (length (x ∷ xs)) 0 (sym e) in absurd (omega arith)
 
--- Bytes begin with their first byte.
+-- If a list of bytes is not empty, then the list begins with its first byte.
 pub prefix_byte :
     (bytes : List ℕ) → 0 < length bytes
     → (more : List ℕ) × (bytes ≡ get_or bytes 0 0 ∷ more) × (take 1 bytes ≡ get_or bytes 0 0 ∷ [])

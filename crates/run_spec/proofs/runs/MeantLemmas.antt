@@ -17,7 +17,8 @@ use Rattle.run_spec.proofs.runs.HoldLemmas.{hold_stays}
 use Rattle.run_spec.proofs.runs.SettledLemmas.{Goes, IsStatus, exit_status}
 
 module _ (call : Call) where
-  -- The whole input if it is known, otherwise the bytes that were read.
+  -- `Holds` is true of the whole input if the input is known, or of some input if the input is
+  -- unknown.
   abbrev IsOfInput : (List ℕ → Type 0) → Type 0
   IsOfInput Holds =
       (input : List ℕ) × IfSome call.input.before.bytes (λ bytes. bytes ≡ input) × Holds input
@@ -35,7 +36,7 @@ module _ (call : Call) where
 
   module _ {A : Type 0} (c : Commands A) (a : A) (law : AreLawfulAt c a) (taken : Taken)
       (took : Gathers call.input taken) (all : Replies) where
-    -- If the input did not fail and was not too long, then it determines the status of the replies.
+    -- The input determines the status of the replies.
     abbrev IsGiven : Type 0
     IsGiven = IsOfInput (λ input. Gives c a input (ending_of all).status)
 

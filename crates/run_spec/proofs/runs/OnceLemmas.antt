@@ -9,11 +9,11 @@ use Rattle.run_spec.specs.runs.Commands.{Item, Fetches, Given, Commands, Prepare
 use Rattle.run_spec.specs.runs.Lawful.{IsOnce, IsFound, AreLawfulAt, AreLawful}
 use Rattle.run_spec.proofs.runs.StreamLemmas.{bytes_after}
 
--- The second stage, or the exit reason of the first.
+-- The result of the second stage, or the exit reason of the first stage.
 abbrev Follows : {X Y : Type 0} → (X → Result Y Exit → Type 0) → Result Y Exit → Result X Exit → Type 0
 Follows next result given = MatchResult given (λ x. next x result) (λ exit. result ≡ Err exit)
 
--- If two stages have at most one answer each, then their composition has at most one.
+-- If two stages have at most one answer each, then their composition has at most one answer.
 pub Then_once :
     {X Y : Type 0} (first : Result X Exit → Type 0) (next : X → Result Y Exit → Type 0)
     → IsOnce first → ((x : X) → IsOnce (next x)) → IsOnce (Then first next)
@@ -33,7 +33,7 @@ no_bytes : AreBytes []
 no_bytes = λ k d less. absurd (omega arith)
 
 module _ {A : Type 0} (c : Commands A) (a : A) (lawful : AreLawfulAt c a) where
-  -- No item here has an output.
+  -- No item at the beginning of `rest` has an output.
   abbrev pub IsStuck : List Item → List ℕ → Type 0
   IsStuck items rest = (item : Item) (more : List ℕ) (output : Output)
       → c.IsFirst a items rest item more → c.Outputs a items item output → ⊥
@@ -173,12 +173,12 @@ module _ {A : Type 0} (c : Commands A) (lawful : AreLawful c) where
   prepared_found arguments files a (Ok request, asks, finds) = (request, files, finds)
   prepared_found arguments files a (Err exit, usage, same) = absurd (cc same)
 
-  -- The output for the task, or the exit reason before it.
+  -- The replies for the task, or the exit reason before the task.
   abbrev Outputs : Given → Replies → Result A Exit → Type 0
   Outputs given all found =
       MatchResult found (λ a. Answers c a given.input all) (λ exit. all ≡ stopped exit)
 
-  -- There is at most one outcome.
+  -- If the commands are lawful, then arguments and what is provided have at most one outcome.
   pub replies_once :
       (arguments : List (List ℕ)) (given : Given) → AreBytes given.input.bytes
       → IsOnce (RunReplies c arguments given)

@@ -1,5 +1,5 @@
 -- If the files and the input are read without faults, then their known contents determine the
--- outcome: a fault-free run has it.
+-- outcome of the run.
 use Rattle.std.proofs.Common.{◌≡◌, ◌≢◌, ◌⊎◌, ℕ, List, ◌++◌, Some, Result, Ok, Err, inl, inr, refl, sym, ap, ◌∙◌, subst, length, arith}
 use Rattle.std.specs.Prelude.{MatchResult}
 use Rattle.base_data.specs.model.Bytes.{AreBytes}
@@ -66,7 +66,7 @@ module _ {A : Type 0} (c : Commands A) (arguments : List (List ℕ)) (call : Cal
       (reading_failed c arguments call.files given.files may_be.files lawful turn name wanted e))
       exit fault
 
-  -- The known files determine the task.
+  -- If the task was prepared from the files of the run, then the known files determine the task.
   pub prepares_known :
       (found : Result A Exit) → Prepares c arguments given.files found
       → Prepares c arguments (known_files files) found

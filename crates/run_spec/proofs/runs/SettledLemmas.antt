@@ -1,4 +1,4 @@
--- The status of a run is that of an outcome; why an outcome has its status.
+-- The status of a run is that of an outcome. The status of an outcome has a cause.
 use Rattle.std.proofs.Common.{◌≡◌, ◌⊎◌, ℕ, Bool, true, false, List, [], Some, Result, Ok, Err, inl, inr, refl, sym, ap, ◌∙◌, subst}
 use Rattle.std.specs.Prelude.{MatchResult, if◌then◌else◌}
 use Rattle.cli_spec.specs.declared.status.Status.{Status}
@@ -15,12 +15,12 @@ use Rattle.run_spec.specs.runs.Environment.{WritesLine, IsWriteOrMemoryError}
 use Rattle.run_spec.specs.runs.RunSpec.{IsOfOutcome, IsSettled, IfUsage}
 use Rattle.run_spec.proofs.runs.OnceLemmas.{prepares_once}
 
--- The output for the task, or the exit reason before it.
+-- The replies for the task, or the exit reason before the task.
 abbrev pub Goes : {A : Type 0} → Commands A → Given → Replies → Result A Exit → Type 0
 Goes c given all found =
     MatchResult found (λ a. Answers c a given.input all) (λ exit. all ≡ stopped exit)
 
--- A status that only the environment can cause.
+-- Only the environment can cause the status.
 abbrev pub IsOuter : Status → Type 0
 IsOuter statuses.AllOk = ⊥
 IsOuter statuses.No = ⊥
@@ -66,7 +66,8 @@ ok_or_no false outer = outer
 abbrev pub IsInside : Reply → Type 0
 IsInside last = (exit : Exit) → last ≡ exits exit → IsInner exit
 
--- If the final reply is no such exit reason, then the environment did not cause the status.
+-- If the final reply is no exit reason of the environment, then the environment did not cause the
+-- status.
 pub reply_inside :
     (output : List Output) (last : Reply) → IsInside last
     → IsOuter (ending_of (replies output last)).status → ⊥
@@ -92,7 +93,7 @@ file_outer missing name exit fault inner = subst IsInner fault inner
 file_outer failed name exit fault inner = subst IsInner fault inner
 file_outer unfetched name exit fault inner = fault
 
--- The statuses of an input or a file that failed differ from the others.
+-- The status of an input or a file that failed differs from 7 and 9.
 pub read_output : IsWriteOrMemoryError statuses.ReadFault → ⊥
 read_output (inl e) = cc e
 read_output (inr e) = cc e
@@ -131,8 +132,8 @@ unsaid_outer status (inl e) = subst IsOuter (sym e) tt
 unsaid_outer status (inr e) = subst IsOuter (sym e) tt
 
 module _ {A : Type 0} (c : Commands A) (arguments : List (List ℕ)) where
-  -- Why an outcome has its status: a reply that the environment did not cause, a file that was not
-  -- read, or an input that failed or was too long.
+  -- The cause of an outcome's status: a reply that the environment did not cause, a file that was
+  -- not read, or an input that failed or was too long.
   pub data Cause (given : Given) (all : Replies) : Type 0 where
     by_reply : IsInside all.last → Cause given all
     by_file : (request : Request) → Asks arguments request → (exit : Exit)
@@ -223,7 +224,8 @@ module _ {A : Type 0} (c : Commands A) (arguments : List (List ℕ)) (call : Cal
         may (inr memory) =
             inr (inl (line.1 ∙ exit_status (replies a.output e.last) out_of_memory memory))
 
-  -- If this holds of the status of each outcome, then it holds of the status of the run.
+  -- If `Holds` is true of the status of each outcome, then `Holds` is true of the run's status,
+  -- unless the status is 7 or 9.
   pub settled :
       IsStatus → (Holds : Status → Type 0) → IsSettled c arguments call Holds
       → Holds call.status ⊎ IsWriteOrMemoryError call.status
@@ -231,7 +233,7 @@ module _ {A : Type 0} (c : Commands A) (arguments : List (List ℕ)) (call : Cal
       inl (subst Holds (sym o.is) (all_have o.given o.may_be o.all o.outcome))
   settled (inr write_or_memory_error) Holds all_have = inr write_or_memory_error
 
-  -- The arguments end the run.
+  -- If the arguments end the run, then the status is that of the exit reason, 7 or 9.
   pub if_arguments : AreLawful c → IsStatus → IfArguments c arguments call
   if_arguments lawful status exit always =
       settled status (λ s. s ≡ status_of exit) (λ given may_be all outcome.
@@ -245,7 +247,7 @@ module _ {A : Type 0} (c : Commands A) (arguments : List (List ℕ)) (call : Cal
             let same : exit ≡ other = cc e in
             ap (λ all. (ending_of all).status) m ∙ ap status_of (sym same)
 
-  -- Status 2.
+  -- If the arguments are no request, then the status is 2, 7 or 9.
   pub if_usage : AreLawful c → IsStatus → IfUsage c arguments call
   if_usage lawful status none =
       if_arguments lawful status usage (λ files. (Err usage, (none, refl), refl))

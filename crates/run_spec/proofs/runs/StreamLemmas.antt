@@ -50,7 +50,7 @@ module _ (law : HasOneJudgement) (limit : ℕ) where
   nothing_refused n refusal (inl r) = empty n r.prefix r.last r.bytes_are
   nothing_refused n refusal (inr r) = empty n r.prefix r.last r.bytes_are
 
-  -- If a value begins here, then no tail does.
+  -- If a value begins the bytes, then the bytes are no tail.
   pub value_or_tail : (first more tail : List ℕ) (t : Tree) (e : End) → AreBytes tail → EncodedUnder limit first t → tail ≡ first ++ more → IsTail limit tail e → ⊥
   value_or_tail first more tail t clean are_bytes encoded same h =
       let some : 0 < length first = encoded_some limit first t encoded in
@@ -96,7 +96,8 @@ module _ (law : HasOneJudgement) (limit : ℕ) where
       let next = streams_once more trees others end other (bytes_after first more whole) (tail, rest, is) (tail', subst (λ m. EncodeAll limit m others tail') (sym after) rest', is') in
       (let head : t ≡ u = one.0 in let tails : trees ≡ others = next.0 in cc, next.1)
 
-  -- If two readings have the same number of values, then the values and the rests are the same.
+  -- If two readings of bytes have equally many values, then the values are equal and the remaining
+  -- bytes are equal.
   pub encode_once : (bytes : List ℕ) (trees others : List Tree) (rest other : List ℕ) → AreBytes bytes → length trees ≡ length others → EncodeAll limit bytes trees rest → EncodeAll limit bytes others other
       → (trees ≡ others) × (rest ≡ other)
   encode_once bytes [] [] rest other are_bytes e h g = (refl, sym h ∙ g)

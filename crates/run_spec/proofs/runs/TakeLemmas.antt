@@ -17,7 +17,7 @@ nothing_known : (o : Option (List ℕ)) → IfSome o (λ bytes. (rest : List ℕ
 nothing_known None = tt
 nothing_known (Some bytes) = (bytes, record { prefix = refl; ends = λ e. cc e }, refl)
 
--- Without any operation.
+-- If no operation is performed, then no bytes are gathered.
 pub took_nothing : (a : ByteState) → Gathers (change a a) nothing
 took_nothing a = record {
   known = nothing_known a.bytes;
@@ -27,7 +27,7 @@ took_nothing a = record {
 }
 
 module _ {E : Type 0} (a b c : ByteState) (bytes buffer : List ℕ) (before : Gathers (change a b) (taken bytes unasked)) where
-  -- Another `n` bytes were read.
+  -- If `n` more bytes are read, then the bytes gathered grow by the `n` bytes.
   pub took_more : (n : ℕ) → length bytes < 2 ^ 48 → length buffer ≤ chunk_limit → TakesPrefix {E = E} b c (Ok n) buffer → AreBytes (take n buffer)
       → Gathers (change a c) (taken (bytes ++ take n buffer) unasked)
   took_more n short chunk moved are_bytes = record {
@@ -48,7 +48,7 @@ module _ {E : Type 0} (a b c : ByteState) (bytes buffer : List ℕ) (before : Ga
     cause = cause_then a.faults b.faults c.faults false before.cause moved.cause;
   }
 
-  -- The end of the source was reached.
+  -- If a read returns no bytes, then the end of the source was reached.
   pub took_end : 0 < length buffer → length bytes < 2 ^ 48 → TakesPrefix {E = E} b c (Ok 0) buffer → Gathers (change a c) (taken bytes at_end)
   took_end some short moved = record {
     known = IfSome_then a.bytes before.known (λ all t.
@@ -59,7 +59,7 @@ module _ {E : Type 0} (a b c : ByteState) (bytes buffer : List ℕ) (before : Ga
     cause = cause_then a.faults b.faults c.faults false before.cause moved.cause;
   }
 
-  -- An operation failed.
+  -- If an operation failed, then the bytes gathered end at a fault.
   pub took_fault : (e : E) → length bytes < 2 ^ 48 → TakesPrefix {E = E} b c (Err e) buffer → Gathers (change a c) (taken bytes at_fault)
   took_fault e short moved = record {
     known = IfSome_then a.bytes before.known (λ all t. (t.0, record { prefix = t.1.prefix; ends = λ e. absurd (cc e) }, moved.failed ∙ t.2));
@@ -68,7 +68,7 @@ module _ {E : Type 0} (a b c : ByteState) (bytes buffer : List ℕ) (before : Ga
     cause = cause_then a.faults b.faults c.faults true before.cause moved.cause;
   }
 
--- The source is too long.
+-- If 2^48 bytes or more were gathered, then the source is too long.
 pub took_length : (a b : ByteState) (bytes : List ℕ) → Gathers (change a b) (taken bytes unasked) → 2 ^ 48 ≤ length bytes → Gathers (change a b) (taken bytes at_length)
 took_length a b bytes before long = record {
   known = IfSome_then a.bytes before.known (λ all t. (t.0, record { prefix = t.1.prefix; ends = λ e. absurd (cc e) }, t.2));

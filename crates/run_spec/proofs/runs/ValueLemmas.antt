@@ -37,7 +37,7 @@ nothing_prefix limit are_bytes = let law = one_judgement_lem limit [] are_bytes 
   from (value n tree) holds = let some = encoded_some limit (take n []) tree holds.1 in absurd (omega (arith, some, length-take-le {A = ℕ} n []))
   from (j.refused n refusal) holds = let some = refused_some limit (take n []) refusal holds.1 in absurd (omega (arith, some, length-take-le {A = ℕ} n []))
 
--- One more value.
+-- If a value follows a list of values, then the bytes are the list with one more value.
 pub encode_snoc : (limit : ℕ) (bytes : List ℕ) (trees : List Tree) (tree : Tree) (first rest : List ℕ)
     → EncodedUnder limit first tree → EncodeAll limit bytes trees (first ++ rest) → EncodeAll limit bytes (trees ++ tree ∷ []) rest
 encode_snoc limit bytes [] tree first rest encoded before = (first, rest, before, encoded, refl)
@@ -64,7 +64,6 @@ and_assoc : (a b c : Bool) → (a && b) && c ≡ a && (b && c)
 and_assoc true b c = refl
 and_assoc false b c = refl
 
--- `true` on the right.
 pub and_true : (b : Bool) → b && true ≡ b
 and_true true = refl
 and_true false = refl
@@ -76,14 +75,14 @@ all_ok-snoc (first ∷ output) next =
 
 -- ---- values that are compared
 
--- Before the line there is no error.
+-- If values are compared, then no output before the final line has an error.
 pub silent : {D T E : Type 0} (language : Language D T E) (earlier trees : List Tree) (output : List Output) → AllPrint language compares earlier trees output → all_ok output ≡ true
 silent language earlier [] [] h = refl
 silent language earlier [] (next ∷ output) h = absurd h
 silent language earlier (t ∷ trees) [] h = absurd h
 silent language earlier (t ∷ trees) (next ∷ output) h = ap (λ s. s.ok && all_ok output) h.0.1 ∙ silent language (earlier ++ t ∷ []) trees output h.1
 
--- The line is without errors if and only if the values are the same.
+-- The line of a comparison is without errors if and only if the values agree.
 pub comparison-ok : (agree : Bool) → (comparison agree).ok ≡ agree
 comparison-ok true = refl
 comparison-ok false = refl
@@ -100,11 +99,11 @@ module _ {D T E : Type 0} (language : Language D T E) (task : Task T E) where
   print_snoc earlier done (t ∷ trees) (first ∷ output) tree next at before outputs =
       (before.0, print_snoc (earlier ++ t ∷ []) done trees output tree next (at ∙ sym (append_assoc earlier (t ∷ []) trees)) before.1 outputs)
 
-  -- There is no output yet.
+  -- If no value was read, then there is no output.
   pub first_none : (bytes : List ℕ) → PrintFirst language task bytes [] [] bytes
   first_none bytes = record { encoded = refl; all_print = tt }
 
-  -- One more value.
+  -- If one more value with an output follows, then the output grows by the value's output.
   pub first_more : (bytes : List ℕ) (trees : List Tree) (output : List Output) (first rest : List ℕ) (tree : Tree) (next : Output)
       → PrintFirst language task bytes trees output (first ++ rest) → EncodedUnder task.limit first tree → Outputs language task.work trees tree next
       → PrintFirst language task bytes (trees ++ tree ∷ []) (output ++ next ∷ []) rest
@@ -113,7 +112,7 @@ module _ {D T E : Type 0} (language : Language D T E) (task : Task T E) where
     all_print = print_snoc [] trees trees output tree next refl before.all_print outputs;
   }
 
-  -- More bytes follow.
+  -- If more bytes follow, then the output for the first values stays the output.
   pub first_after : (bytes : List ℕ) (trees : List Tree) (output : List Output) (rest more : List ℕ)
       → PrintFirst language task bytes trees output rest → PrintFirst language task (bytes ++ more) trees output (rest ++ more)
   first_after bytes trees output rest more before = record {

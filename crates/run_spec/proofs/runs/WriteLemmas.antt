@@ -5,11 +5,12 @@ use Rattle.base_io.specs.Faults.{HasCause, RoseOrLast}
 use Rattle.base_io.specs.Sink.{Writes}
 use Rattle.base_io.specs.State.{ByteState, change}
 
--- An operation after one that did not fail.
+-- If an operation follows one that did not fail, then the two operations have the cause of the
+-- second.
 pub cause_then : (a b c : ℕ) (failed : Bool) → HasCause a b false → HasCause b c failed → HasCause a c failed
 cause_then a b c failed first second = rw first.kept at second
 
--- A failed operation after one that did not fail.
+-- If a failed operation follows one that did not fail, then the fault count increased over both.
 pub rose_after : (a b c : ℕ) → HasCause a b false → HasCause b c true → RoseOrLast a c
 rose_after a b c first second = rw first.kept at second.rose
 
@@ -27,7 +28,7 @@ nothing_written : (o : Option (List ℕ)) → IfSome o (λ bytes. o ≡ Some (by
 nothing_written None = tt
 nothing_written (Some bytes) = ap (λ b. Some b) (sym (append-nil bytes))
 
--- Without any operation.
+-- If no operation is performed, then nothing is written.
 pub writes_nothing : (a : ByteState) → Writes (change a a) []
 writes_nothing a = record {
   appended = nothing_written a.bytes;

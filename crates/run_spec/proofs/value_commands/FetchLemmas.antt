@@ -32,7 +32,7 @@ module _ {D T E : Type 0} (language : Language D T E) (arguments : List (List �
       from (inl (first, f)) = omega (arith, first)
       from (inr (second, s)) = omega (arith, second)
 
-    -- Two turns in sequence.
+    -- If files are fetched in turn 0 and turn 1, then the requested files are fetched.
     pub new_fetches :
         (before between after : FilesState)
         → FetchedIn (change before between) 0 → FetchedIn (change between after) 1

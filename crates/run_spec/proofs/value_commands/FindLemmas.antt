@@ -1,5 +1,5 @@
--- The task that the files determine: there is at most one, it depends only on the requested files,
--- and each of them is read or ends the run.
+-- The task that the files determine. There is at most one task, which depends only on the requested
+-- files. Each requested file is read or ends the run.
 use Rattle.std.proofs.Common.{◌≡◌, ◌⊎◌, ℕ, Bool, List, Option, Some, Result, Ok, Err, inl, inr, refl, sym, ap, ◌∙◌, subst}
 use Rattle.std.specs.Prelude.{MatchResult}
 use Rattle.cli_spec.specs.Outcome as outcome
@@ -14,7 +14,7 @@ use Rattle.run_spec.proofs.runs.OnceLemmas.{Then_once}
 use Rattle.run_spec.specs.value_commands.Tasks.{by_turns, WantsFile, WantsScript, Wants, Finds, commands}
 use Rattle.run_spec.proofs.value_commands.GivenLemmas.{IsGivenWork, work_given}
 
--- If a file is read, then it is read completely.
+-- If a file is read, then the file is read completely.
 pub whole_or :
     {S : Type 0} (found : Found) → ((bytes : List ℕ) × (found ≡ opened (whole bytes))) ⊎ S
     → IsWhole found ⊎ S
@@ -35,7 +35,7 @@ refusal_once Reads exit one (Err s) (Err t) (refusal, refuses, is) (other, refus
     let same : refusal ≡ other = cc (one (Err refusal) (Err other) refuses refuses') in
     ap (λ s. Err s) (is ∙ (ap exit same ∙ sym is'))
 
--- The file is read, or it ends the run.
+-- The file is read, or the file ends the run.
 abbrev pub IsRead : {X : Type 0} → List ℕ → Found → Result X Exit → Type 0
 IsRead name found result = ((bytes : List ℕ) × (found ≡ opened (whole bytes)))
     ⊎ ((exit : Exit) × ReadsFile name found (Err exit) × (result ≡ Err exit))
@@ -46,7 +46,7 @@ pub file_read :
 file_read name found (Ok bytes) reads = inl (bytes, reads)
 file_read name found (Err exit) reads = inr (exit, reads, refl)
 
--- A file that the first stage reads.
+-- If the first stage reads a file, then the composition of the stages reads the file.
 pub then_read :
     {X Y : Type 0} (name : List ℕ) (found : Found)
     (first : Result X Exit → Type 0) (next : X → Result Y Exit → Type 0)
@@ -156,7 +156,7 @@ module _ {D T E : Type 0} (language : Language D T E) (lawful : IsLawful languag
       (λ work found. found ≡ Ok (task work (limit_of request)))
       (work_once (by_turns files) request) (λ work found other h k. h ∙ sym k)
 
-  -- The type of the task was read from a file.
+  -- If a task is found, then the type of the task was read from a file.
   pub finds_given :
       (request : Request) (files : Fetches) (a : Task T E)
       → Finds language request files (Ok a) → IsGivenWork language a.work
@@ -272,7 +272,7 @@ module _ {D T E : Type 0} (language : Language D T E) (lawful : IsLawful languag
       (λ type. Then (ReadsScriptOf language typed.1.lines typed.1.decimal files.script name)
       (λ script found. found ≡ Ok (edits type script compat))) (type_read files.file typed)
 
-  -- FILE of the arguments is the requested file.
+  -- If FILE of the arguments is the requested file, then their names are equal.
   same_file :
       (f : List ℕ) (t : AskedType) (name : List ℕ) (files : Fetches)
       (result : Result (Work T E) Exit) (type : AskedType)
@@ -351,7 +351,7 @@ module _ {D T E : Type 0} (language : Language D T E) (lawful : IsLawful languag
 
   -- ---- an exit reason of the environment comes from a requested file
 
-  -- The environment did not cause the exit reason, or this file led to it.
+  -- The environment did not cause the exit reason, or the file `name` led to the exit reason.
   abbrev pub ComesOf : List ℕ → Found → Exit → Type 0
   ComesOf name found exit = IsInner exit ⊎ ReadsFile name found (Err exit)
 

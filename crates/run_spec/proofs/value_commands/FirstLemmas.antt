@@ -1,5 +1,5 @@
 -- The output for the first values is the output for the first items, and the run continues after
--- them.
+-- the values.
 use Rattle.std.proofs.Common.{◌≡◌, ◌⊎◌, ℕ, List, [], ◌∷◌, ◌++◌, length, inl, inr, refl, sym, ap, ◌∙◌, subst, arith}
 use Rattle.base_data.specs.model.Bytes.{AreBytes}
 use Rattle.base_data.specs.declared.model.refusal.ReadRefusal.{ReadRefusal}
@@ -39,7 +39,7 @@ module _ {D T E : Type 0} (language : Language D T E) where
           (ap (λ items. items ++ value t ∷ []) at ∙ sym (items_more earlier t)) trees output more,
     )
 
-    -- The first values, as items.
+    -- If the first values have outputs, then the values as items have the outputs.
     pub outputs_first :
         (bytes : List ℕ) (trees : List Tree) (output : List Output) (rest : List ℕ)
         → PrintFirst language a bytes trees output rest
@@ -51,7 +51,7 @@ module _ {D T E : Type 0} (language : Language D T E) where
     }
 
   module _ (a : Task T E) (trees : List Tree) (rest : List ℕ) (are_bytes : AreBytes rest) where
-    -- The command does not end the run here.
+    -- The command does not end the run at the bytes `rest`.
     abbrev Free : Type 0
     Free = (exit : Exit) → ExitsAt language a.work a.limit trees rest exit → ⊥
 

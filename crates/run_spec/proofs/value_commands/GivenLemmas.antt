@@ -11,7 +11,7 @@ IsGivenWork language dumps = Unit {0}
 IsGivenWork language compares = Unit {0}
 
 module _ {D T E : Type 0} (language : Language D T E) (files : Fetches) where
-  -- If a type is read from a file, then it was read over declarations.
+  -- If a type is read from a file, then the type was read over declarations.
   pub type_given : (f : List ℕ) (u : AskedType) (t : T) → ReadsTypeOf language files.file (f, u) (Ok t) → IsGiven language t
   type_given f u t (Err s, h, other) = absurd (cc other)
   type_given f u t (Ok text, h, (Err s, g, other)) = absurd (cc other)

@@ -1,4 +1,4 @@
--- Values as items: their output, the exit reason and the end of the input are unique, and remain if
+-- Values as items. The output, the exit reason and the end of the input are unique, and remain if
 -- more bytes follow.
 use Rattle.std.proofs.Common.{◌≡◌, ◌⊎◌, ◌<◌, ℕ, Bool, true, false, List, [], ◌∷◌, ◌++◌, length, Option, Some, None, Ok, Err, inl, inr, refl, sym, ap, ◌∙◌, subst, arith}
 use Rattle.std.specs.Prelude.{◌↔◌, IsTrue, codes}
@@ -23,7 +23,7 @@ use Rattle.run_spec.proofs.value_commands.StayLemmas.{tail_after, exits_more}
 
 -- ---- values as items
 
--- If the items of two lists of values are equal, then the values are.
+-- If the items of two lists of values are equal, then the lists are equal.
 pub items_once : (trees others : List Tree) → items_of trees ≡ items_of others → trees ≡ others
 items_once [] [] e = refl
 items_once [] (u ∷ others) e = absurd (cc e)
@@ -37,7 +37,7 @@ pub items_length : (trees : List Tree) → length (items_of trees) ≡ length tr
 items_length [] = refl
 items_length (t ∷ trees) = omega (arith, items_length trees)
 
--- One more value.
+-- The items of a list with one more value are the items of the list and one more item.
 pub items_more : (trees : List Tree) (tree : Tree)
     → items_of (trees ++ tree ∷ []) ≡ items_of trees ++ value_item tree ∷ []
 items_more [] tree = refl
@@ -50,7 +50,7 @@ tree_once item t u h k = cc
 -- ---- reading the bytes
 
 module _ (limit : ℕ) (bytes : List ℕ) (are_bytes : AreBytes bytes) where
-  -- The first value and the rest are unique.
+  -- The first value of the bytes and the remaining bytes are unique.
   pub value_once :
       (t u : Tree) (more rest : List ℕ)
       → EncodeAll limit bytes (t ∷ []) more → EncodeAll limit bytes (u ∷ []) rest
@@ -65,7 +65,7 @@ module _ (limit : ℕ) (bytes : List ℕ) (are_bytes : AreBytes bytes) where
       (streams_once one_judgement_lem limit bytes [] [] end other are_bytes
       (bytes, refl, h) (bytes, refl, k)).1
 
-  -- If a value begins here, then no tail does.
+  -- If a value begins the bytes, then the bytes are no tail.
   pub no_tail :
       (t : Tree) (more : List ℕ) (end : End)
       → EncodeAll limit bytes (t ∷ []) more → IsTail limit bytes end → ⊥
@@ -75,7 +75,7 @@ module _ (limit : ℕ) (bytes : List ℕ) (are_bytes : AreBytes bytes) where
 -- ---- the next value, as an item
 
 module _ {D T E : Type 0} (language : Language D T E) (limit : ℕ) where
-  -- The next item and the rest are unique.
+  -- The next item of the bytes and the remaining bytes are unique.
   pub first_once :
       (bytes : List ℕ) → AreBytes bytes → (item other : Item) (more rest : List ℕ)
       → IsFirstValue language limit bytes item more → IsFirstValue language limit bytes other rest
@@ -174,7 +174,7 @@ module _ {D T E : Type 0} (language : Language D T E) (lawful : IsLawful languag
         let same : h.refusal ≡ k.refusal = cc one in
         h.is ∙ (ap (λ r. value (length trees) (refusal_text r)) same ∙ sym k.is)
 
-    -- The exit reason is unique.
+    -- The command or the refusal of a value ends the run with the exit reason `exit`.
     abbrev Why : Work T E → Exit → Type 0
     Why work exit = outcome.ExitsAt language work limit trees bytes exit
         ⊎ IsRefused language (task work limit) (length trees) bytes exit
@@ -185,7 +185,7 @@ module _ {D T E : Type 0} (language : Language D T E) (lawful : IsLawful languag
     why_once work given exit other (inr h) (inl k) = absurd (exit_or_refused work other exit k h)
     why_once work given exit other (inr h) (inr k) = refused_once work exit other h k
 
-    -- Where the run ends, no value has an output.
+    -- If the run ends at the bytes, then no value at the bytes has an output.
     why_disjoint :
         (work : Work T E) → IsGivenWork language work → (tree : Tree) (more : List ℕ) (output : Output)
         (exit : Exit) → EncodeAll limit bytes (tree ∷ []) more

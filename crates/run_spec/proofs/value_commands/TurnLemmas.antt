@@ -15,7 +15,7 @@ pub is_before : (turn : ℕ) → turn ≡ 1 → 0 < turn
 is_before turn e = omega arith
 
 module _ {D T E : Type 0} (language : Language D T E) (lawful : IsLawful language) where
-  -- If there is a SCRIPT, then there is no PATH.
+  -- If the request has a SCRIPT, then the request has no invalid PATH.
   script_path :
       (request : Request) (name : List ℕ) → script_of request ≡ Some name
       → HasPath language request
@@ -26,7 +26,7 @@ module _ {D T E : Type 0} (language : Language D T E) (lawful : IsLawful languag
   script_path (compare most) name e = absurd (cc e)
   script_path (own request) name e = absurd (cc e)
 
-  -- FILE is requested before SCRIPT.
+  -- If SCRIPT is requested, then FILE is requested.
   file_before :
       (request : Request) (files : Fetches) (name : List ℕ)
       → (w : WantsScript language request files name) → WantsFile language request w.typed.0

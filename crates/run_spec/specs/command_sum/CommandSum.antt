@@ -1,4 +1,4 @@
--- The sum of two command sets: a request belongs to one of them.
+-- The sum of two command sets, where each request belongs to at most one set.
 use Rattle.std.specs.Prelude.{ℕ, ◌⊎◌, List, Result, Ok, Err}
 use Rattle.std.proofs.Common.{inl, inr}
 use Rattle.cli_spec.specs.Outcome.{Request, Asks, Output, Reply}
@@ -39,7 +39,7 @@ module _ {A B : Type 0} (c : Commands A) (d : Commands B) where
   Ends (inl a) = c.Ends a
   Ends (inr b) = d.Ends b
 
-  -- The commands of both sets.
+  -- The commands of the sets `c` and `d` in one set.
   abbrev pub command_sum : Commands (A ⊎ B)
   command_sum = record {
     Wants = Wants;
@@ -51,7 +51,7 @@ module _ {A B : Type 0} (c : Commands A) (d : Commands B) where
     Ends = Ends;
   }
 
--- The command set ignores the request: it requests no file and finds no task.
+-- The command set ignores the request: the set requests no file and finds no task.
 pub record IsIdleAt {A : Type 0} (c : Commands A) (request : Request) : Type 0 where
   pub unwanted : (files : Fetches) (turn : ℕ) (name : List ℕ)
       → c.Wants request files turn name → ⊥
@@ -61,12 +61,12 @@ pub record IsIdleAt {A : Type 0} (c : Commands A) (request : Request) : Type 0 w
 abbrev pub AreDisjoint : {A B : Type 0} → Commands A → Commands B → Type 0
 AreDisjoint c d = (request : Request) → IsIdleAt c request ⊎ IsIdleAt d request
 
--- The arguments request nothing of these commands.
+-- The arguments request nothing of the commands `c`.
 abbrev pub AskNothingOf : {A : Type 0} → Commands A → List (List ℕ) → Type 0
 AskNothingOf c arguments = (request : Request) → Asks arguments request → IsIdleAt c request
 
 module _ {A B : Type 0} (c : Commands A) (d : Commands B) where
-  -- If both sets ignore a request, then the sum ignores it.
+  -- If both sets ignore a request, then the sum ignores the request.
   abbrev pub AreIdleTogether : Type 0
   AreIdleTogether = (request : Request) → IsIdleAt c request → IsIdleAt d request
       → IsIdleAt (command_sum c d) request
@@ -77,12 +77,14 @@ module _ {A B : Type 0} (c : Commands A) (d : Commands B) where
   HaveAccountsOfFirst = (arguments : List (List ℕ)) (call : Call) → AskNothingOf d arguments
       → Account c arguments call → Account (command_sum c d) arguments call
 
-  -- In this case, the specification by the sum implies the specification by the first set.
+  -- If the arguments request nothing of the second set, then the specification by the sum implies
+  -- the specification by the first set.
   abbrev pub SpecifyAsFirst : Type 0
   SpecifyAsFirst = (arguments : List (List ℕ)) (call : Call) → AskNothingOf d arguments
       → RunSpec (command_sum c d) arguments call → RunSpec c arguments call
 
-  -- If the arguments request nothing of the first set, then the second set has both properties.
+  -- If the arguments request nothing of the first set, then an account by the second set is an
+  -- account by the sum.
   abbrev pub HaveAccountsOfSecond : Type 0
   HaveAccountsOfSecond = (arguments : List (List ℕ)) (call : Call) → AskNothingOf c arguments
       → Account d arguments call → Account (command_sum c d) arguments call

@@ -21,15 +21,15 @@ use Rattle.run_spec.specs.runs.RunSpec.{known_files, HoldEnd, Gives, AtInput}
 pub record Tables (A : Type 0) : Type 1 where
   -- The request alone ends the run with status 2.
   pub BadArguments : Request → Type 0
-  -- The request and its fetched files end the run before the input is read, with this status.
+  -- The request and its fetched files end the run with the given status before the input is read.
   pub Bar : Request → Fetches → Status → Type 0
-  -- The bytes end the run with this status, whatever follows them.
+  -- The bytes end the run with the given status, whatever bytes follow.
   pub ExitWith : A → List ℕ → Status → Type 0
-  -- If the input is these bytes, then the status at its end is this status.
+  -- If the bytes are the whole input, then the run has the given status at the end of the input.
   pub EndWith : A → List ℕ → Status → Type 0
 
 module _ {A : Type 0} (c : Commands A) (tables : Tables A) where
-  -- An input leads to this status.
+  -- The input leads to the status `status`, by one of the two tables for inputs.
   abbrev pub Show : A → List ℕ → Status → Type 0
   Show a input status = tables.ExitWith a input status ⊎ tables.EndWith a input status
 
@@ -55,7 +55,8 @@ module _ {A : Type 0} (c : Commands A) (tables : Tables A) where
   HaveShown = (a : A) (input : List ℕ) (status : Status) → AreBytes input
       → Gives c a input status ↔ Show a input status
 
-  -- A request and its files end the run with a status if and only if `Bar` holds for them.
+  -- A request and its files end the run with a status if and only if `Bar` holds for the request,
+  -- the files and the status.
   abbrev pub HaveBars : Type 0
   HaveBars = (request : Request) (files : Fetches) (status : Status)
       → ((exit : Exit) × (status_of exit ≡ status) × c.Finds request files (Err exit))
@@ -77,28 +78,28 @@ module _ {A : Type 0} (c : Commands A) (tables : Tables A) where
   module _ (arguments : List (List ℕ)) where
     -- ---- statuses that the arguments, the files or the input cause
 
-    -- The fetched files end the run with this status before the input is read.
+    -- The fetched files end the run with the status `status` before the input is read.
     pub record IsBarred (call : Call) (status : Status) : Type 0 where
       pub found : Fetches
       pub fetches : FetchesFor c arguments call.files found
       pub request : Request
       pub asks : Asks arguments request
       pub bar : tables.Bar request found status
-      -- If the file map is known, then the text of a requested file is what the map has for its
-      -- name.
+      -- If the file map is known, then the text of a requested file is the text that the map has
+      -- for the file's name.
       pub is_known : (turn : ℕ) (name text : List ℕ) → c.Wants request found turn name
           → found turn name ≡ opened (whole text)
           → IfSome call.files.before.map (λ all. contents_of all name ≡ Some text)
 
-    -- The arguments are no request, the files end the run with this status, or the whole input
-    -- leads to it.
+    -- The arguments are no request, the files end the run with the status, or the whole input leads
+    -- to the status.
     abbrev pub IsCaused : Call → Status → Type 0
     IsCaused call status =
         (IsUsage arguments × (status ≡ Usage))
         ⊎ (IsBarred call status
         ⊎ AtInput c arguments call (λ a input. AreBytes input × Show a input status))
 
-    -- A status other than 6, 7, 9 and 10 is returned only if it has such a cause.
+    -- If a status other than 6, 7, 9 and 10 is returned, then `IsCaused` holds for the status.
     abbrev pub OnlyCaused : Call → Type 0
     OnlyCaused call = (status : Status) → status ≢ ReadFault → status ≢ TooLong
         → (IsWriteOrMemoryError status → ⊥) → call.status ≡ status → IsCaused call status
@@ -110,13 +111,13 @@ module _ {A : Type 0} (c : Commands A) (tables : Tables A) where
     AsksBadly = (request : Request) × Asks arguments request × tables.BadArguments request
 
     -- If the arguments are no request, or a request that alone ends the run, then the status is 2,
-    -- or 7 or 9.
+    -- 7 or 9.
     abbrev pub IfBadArguments : Call → Type 0
     IfBadArguments call =
         IsUsage arguments ⊎ AsksBadly → (call.status ≡ Usage) ⊎ IsWriteOrMemoryError call.status
 
-    -- If known files end the run with a status, and the requested files are short enough, then this
-    -- status is returned, or 6 to 9.
+    -- Suppose known files end the run with a status, and the requested files are short enough. Then
+    -- the run returns the status, or a status from 6 to 9.
     abbrev pub IfBarred : Call → Type 0
     IfBarred call = (files : List File) (request : Request) (status : Status)
         → call.files.before.map ≡ Some files
@@ -124,16 +125,17 @@ module _ {A : Type 0} (c : Commands A) (tables : Tables A) where
         → Asks arguments request → tables.Bar request (known_files files) status
         → (call.status ≡ status) ⊎ IsEnvironment call.status
 
-    -- This is the task, whatever the files are, or the known files determine it and are short
-    -- enough.
+    -- The task is `a`, whatever the files are, or the known files are short enough and determine
+    -- the task `a`.
     abbrev pub IsToBeDone : Call → A → Type 0
     IsToBeDone call a =
         ((files : Fetches) → Prepares c arguments files (Ok a))
         ⊎ ((files : List File) × (call.files.before.map ≡ Some files) × AreShort files
         × Prepares c arguments (known_files files) (Ok a))
 
-    -- The status, or 6 to 9, is returned if the first 2^48 bytes of a known input end the run with
-    -- it. The same holds if the known input is short enough and ends with the status.
+    -- If the first 2^48 bytes of a known input end the run with a status, then the run returns the
+    -- status, or a status from 6 to 9. If a known input is short enough and ends with a status,
+    -- then the run returns the status, or a status from 6 to 9.
     abbrev pub IfShown : Call → Type 0
     IfShown call = (a : A) (bytes : List ℕ) (status : Status) → IsToBeDone call a
         → call.input.before.bytes ≡ Some bytes
@@ -143,15 +145,16 @@ module _ {A : Type 0} (c : Commands A) (tables : Tables A) where
 
     -- ---- fault-free runs
 
-    -- The arguments are no request, the files end the run with this status, or the input leads to
-    -- it.
+    -- The arguments are no request, the files end the run with the status, or the input leads to
+    -- the status.
     abbrev pub IsDue : List ℕ → Fetches → Status → Type 0
     IsDue input files status =
         (IsUsage arguments × (status ≡ Usage))
         ⊎ (((request : Request) × Asks arguments request × tables.Bar request files status)
         ⊎ ((a : A) × Prepares c arguments files (Ok a) × Show a input status))
 
-    -- Unless memory ran out, a fault-free run has exactly the status that is due.
+    -- Unless memory ran out, a fault-free run returns a status if and only if `IsDue` holds for the
+    -- status.
     abbrev pub HasWhatIsDue : Call → Type 0
     HasWhatIsDue call = (input : List ℕ) (files : List File) → IsHonest call input files
         → (call.status ≡ Memory)
@@ -160,13 +163,15 @@ module _ {A : Type 0} (c : Commands A) (tables : Tables A) where
     -- ---- the whole specification
 
     pub record Causes (call : Call) : Type 0 where
-      -- Statuses 0 to 5, 8, 11 and 12: the arguments, the files or the whole input cause them.
+      -- If status 0 to 5, 8, 11 or 12 is returned, then the arguments, the files or the whole input
+      -- caused the status.
       pub only : OnlyCaused call
       -- Status 2 is returned if the arguments are no request, or a request that alone ends the run.
       pub bad_arguments : IfBadArguments call
       -- Status 3, 5, 8 or 12 is returned if known files are refused or missing.
       pub barred : IfBarred call
-      -- Status 0, 1, 2, 4, 5, 11 or 12 is returned if a known input leads to it.
+      -- If a known input leads to status 0, 1, 2, 4, 5, 11 or 12, then the run returns the status.
       pub shown : IfShown call
-      -- Unless memory ran out, a fault-free run has a status if and only if it is due.
+      -- Unless memory ran out, a fault-free run has a status if and only if `IsDue` holds for the
+      -- status.
       pub due : HasWhatIsDue call

@@ -11,7 +11,7 @@ use Rattle.run_spec.specs.runs.Commands.{Fetches}
 use Rattle.run_spec.specs.value_commands.Tasks.{WantsFile, WantsScript, Wants}
 
 module _ {D T E : Type 0} (language : Language D T E) where
-  -- There is a PATH, and it is no valid path.
+  -- The request has a PATH that is no valid path.
   abbrev pub HasNoPath : Request → Type 0
   HasNoPath request = IsSomeAnd (path_of request) (λ text. language.ReadsPath text None)
 
@@ -30,7 +30,7 @@ module _ {D T E : Type 0} (language : Language D T E) where
     pub read : files 0 name ≡ opened (whole text)
     pub refused : IsRefusedType text wants.type
 
-  -- SCRIPT is read in its turn, and its contents are refused.
+  -- SCRIPT is read in its turn, and the contents of SCRIPT are refused.
   pub record RefusesScript (request : Request) (files : Fetches) : Type 0 where
     pub name : List ℕ
     pub wants : WantsScript language request files name
@@ -40,7 +40,8 @@ module _ {D T E : Type 0} (language : Language D T E) where
     pub refused :
         language.ReadsScript wants.typed.1.lines wants.typed.1.decimal text (Err refusal)
 
-  -- FILE, or SCRIPT in its turn, is not read to its end, and the exit reason has this status.
+  -- FILE, or SCRIPT in its turn, is not read to its end, and the exit reason has the status
+  -- `status`.
   pub record IsUnread (request : Request) (files : Fetches) (status : Status) : Type 0 where
     pub turn : ℕ
     pub name : List ℕ
@@ -49,7 +50,7 @@ module _ {D T E : Type 0} (language : Language D T E) where
     pub fault : ReadsFile name (files turn name) (Err exit)
     pub is : status_of exit ≡ status
 
-  -- The request and its fetched files end the run before the input is read, with this status.
+  -- The request and its fetched files end the run with the given status before the input is read.
   abbrev pub Bar : Request → Fetches → Status → Type 0
   Bar request files Usage = HasNoPath request
   Bar request files Types = RefusesTypes request files

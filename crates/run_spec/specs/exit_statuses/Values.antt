@@ -12,12 +12,12 @@ use Rattle.cli_spec.specs.declared.status.Status.TheVariants.{Compat}
 use Rattle.cli_spec.specs.Outcome.{Language, Query, Unedited, untyped, refused_line, too_large}
 use Rattle.cli_spec.specs.Outcome.{Work, reports, edits, dumps, compares, Task, line_past, AreSame}
 
--- `Holds` is true of some value.
+-- `Holds` is true of some value in the list.
 abbrev pub HoldsOfSome : (Tree → Type 0) → List Tree → Type 0
 HoldsOfSome Holds [] = ⊥
 HoldsOfSome Holds (tree ∷ trees) = Holds tree ⊎ HoldsOfSome Holds trees
 
--- There are exactly two values, and `Holds` is true of them.
+-- The list has exactly two values, and `Holds` is true of the two values.
 abbrev pub AreTwo : (Tree → Tree → Type 0) → List Tree → Type 0
 AreTwo Holds [] = ⊥
 AreTwo Holds (first ∷ []) = ⊥
@@ -25,26 +25,27 @@ AreTwo Holds (first ∷ second ∷ []) = Holds first second
 AreTwo Holds (first ∷ second ∷ third ∷ rest) = ⊥
 
 module _ {D T E : Type 0} (language : Language D T E) where
-  -- The value has an output line at the type, and `ok` states whether it is without errors.
+  -- The value has an output line at the type, and `ok` states whether the line is without errors.
   abbrev pub HasLine : Query → T → Bool → Tree → Type 0
   HasLine query type ok tree = (line : List ℕ) × language.LineOf query type tree line ok
 
   abbrev pub HasSomeLine : Query → T → Tree → Type 0
   HasSomeLine query type tree = (ok : Bool) × HasLine query type ok tree
 
-  -- The value that follows these is edited, and its bytes are written.
+  -- The value that follows the values `earlier` is edited, and the bytes of the edited value are
+  -- written.
   abbrev pub IsEdited : T → List E → Bool → (earlier : List Tree) → Tree → Type 0
   IsEdited type script compat earlier tree =
       (bytes : List ℕ) × language.BytesOf type script compat earlier tree (Ok bytes)
 
-  -- Each value that follows these is edited.
+  -- Each value of `trees`, which follow the values `earlier`, is edited.
   abbrev pub AreEdited : T → List E → Bool → (earlier trees : List Tree) → Type 0
   AreEdited type script compat earlier [] = Unit {0}
   AreEdited type script compat earlier (tree ∷ trees) =
       IsEdited type script compat earlier tree
       × AreEdited type script compat (earlier ++ tree ∷ []) trees
 
-  -- The values are edited, and the next one is not, for this reason.
+  -- The values `trees` are edited, and the next value is not edited, for the reason `why`.
   abbrev pub IsNotEdited : T → List E → Bool → List Tree → Tree → Unedited → Type 0
   IsNotEdited type script compat trees tree why =
       AreEdited type script compat [] trees
@@ -59,7 +60,7 @@ module _ {D T E : Type 0} (language : Language D T E) where
   Pass dumps trees = Unit {0}
   Pass compares trees = length trees < 2
 
-  -- If the input ends after these values, then this is the status.
+  -- If the input ends after the values `trees`, then the status is the given one.
   abbrev pub Finish : Work T E → List Tree → Status → Type 0
   Finish (reports query type) trees AllOk = AllByRecursion (HasLine query type true) trees
   Finish (reports query type) trees No =
@@ -76,7 +77,7 @@ module _ {D T E : Type 0} (language : Language D T E) where
   Finish compares trees Usage = length trees < 2
   Finish work trees status = ⊥
 
-  -- After these values, the next one ends the run with this status.
+  -- After the values `trees`, the value `tree` ends the run with the given status.
   abbrev pub Break : Work T E → List Tree → Tree → Status → Type 0
   Break (edits type script compat) trees tree No =
       (fault : List ℕ) × IsNotEdited type script compat trees tree (untyped fault)
@@ -87,14 +88,14 @@ module _ {D T E : Type 0} (language : Language D T E) where
       (refusal : List ℕ) × IsNotEdited type script compat trees tree (too_large refusal)
   Break work trees tree status = ⊥
 
-  -- After these values, any further byte ends the run with this status.
+  -- After the values `trees`, any further byte ends the run with the given status.
   abbrev pub Close : Work T E → List Tree → Status → Type 0
   Close compares trees Usage = length trees ≡ 2
   Close work trees status = ⊥
 
   -- ---- in terms of bytes
 
-  -- All bytes are values, and this is the status at their end.
+  -- All bytes are values, and `status` is the status at the end of the values.
   pub record AreFinished (task : Task T E) (bytes : List ℕ) (status : Status) : Type 0 where
     pub trees : List Tree
     pub encoded : EncodeAll task.limit bytes trees []
@@ -109,13 +110,14 @@ module _ {D T E : Type 0} (language : Language D T E) where
     pub pass : Pass task.work trees
     pub tail : IsTail task.limit rest (cut n)
 
-  -- If the input is these bytes, then this is the status at its end. It is 4 if a value is
-  -- truncated.
+  -- If the input is `bytes`, then `status` is the status at the end of the input. If a value is
+  -- truncated, the status is 4.
   abbrev pub EndWith : Task T E → List ℕ → Status → Type 0
   EndWith task bytes status =
       AreFinished task bytes status ⊎ ((status ≡ Value) × AreSplit task bytes)
 
-  -- The bytes begin with values, and the last of them ends the run with this status.
+  -- The bytes begin with values, and the last of these values ends the run with the status
+  -- `status`.
   pub record HoldBreak (task : Task T E) (bytes : List ℕ) (status : Status) : Type 0 where
     pub trees : List Tree
     pub tree : Tree
@@ -123,7 +125,8 @@ module _ {D T E : Type 0} (language : Language D T E) where
     pub encoded : EncodeAll task.limit bytes (trees ++ tree ∷ []) rest
     pub breaks : Break task.work trees tree status
 
-  -- The bytes are values, and one further byte ends the run with this status.
+  -- The bytes are values and at least one further byte, which ends the run with the status
+  -- `status`.
   pub record HoldClose (task : Task T E) (bytes : List ℕ) (status : Status) : Type 0 where
     pub trees : List Tree
     pub rest : List ℕ
@@ -140,8 +143,8 @@ module _ {D T E : Type 0} (language : Language D T E) where
     pub pass : Pass task.work trees
     pub tail : IsTail task.limit rest (refused refusal)
 
-  -- The bytes end the run with this status, whatever follows them. It is 4 if some bytes are
-  -- refused.
+  -- The bytes end the run with the status `status`, whatever bytes follow. If some bytes are
+  -- refused, the status is 4.
   abbrev pub ExitWith : Task T E → List ℕ → Status → Type 0
   ExitWith task bytes status =
       HoldBreak task bytes status

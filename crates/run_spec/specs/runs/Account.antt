@@ -1,5 +1,5 @@
 -- The account of a run by commands in the general form: what the environment provided, the output
--- for it, and how much of the output was written.
+-- for what was provided, and how much of the output was written.
 use Rattle.std.specs.Prelude.{ℕ, suc, ◌<◌, ◌≤◌, ◌≡◌, ◌⊎◌, Bool, List, [], ◌∷◌, ◌++◌, length, Ok}
 use Rattle.cli_spec.specs.declared.status.Status.TheVariants.{WriteFault}
 use Rattle.cli_spec.specs.Outcome.{Taken, unasked, nothing, unfetched, Request, Asks, ending_of}
@@ -16,14 +16,15 @@ use Rattle.run_spec.specs.runs.Given.{chunk_limit, Gathers, Fetched}
 use Rattle.run_spec.specs.runs.Environment.{WritesLine, WritesPartAfter}
 
 module _ {A : Type 0} (c : Commands A) where
-  -- The run does not end within these bytes, and `output` is the output for their items.
+  -- The run does not end within the bytes `bytes`, and `output` is the output for the items of the
+  -- bytes.
   pub record HaveNoExit (a : A) (bytes : List ℕ) (output : List Output) : Type 0 where
     pub items : List Item
     pub rest : List ℕ
     pub first : OutputsFirst c a bytes items output rest
     pub goes_on : GoesOn c a items rest
 
-  -- After the output `before`, one more item ends. The run is finished after that item, whatever
+  -- After the output `before`, one more item ends. After the item, the run is finished, whatever
   -- bytes follow, and no more input was requested.
   pub record IsFinishedBehind (a : A) (taken : Taken) (before output : List Output) : Type 0 where
     pub next : Output
@@ -35,10 +36,10 @@ module _ {A : Type 0} (c : Commands A) where
     pub at : c.Exits a items rest (finished ok)
     pub no_more : taken.until ≡ unasked
 
-  -- The run requests no further chunk once something ends it. Without its last bytes, at most one
-  -- chunk, the input that was read contains no exit reason. `output` is the output for its items,
-  -- and for one more item if the run is finished after that item. If more input was requested,
-  -- then all of it contains no exit reason.
+  -- The run requests no further chunk once something ends the run. Without its last bytes, at most
+  -- one chunk, the input that was read contains no exit reason. `output` is the output for the
+  -- items of the input, and for one more item if the run is finished after the item. If more input
+  -- was requested, then all input that was read contains no exit reason.
   pub record IsPaced (a : A) (taken : Taken) (output : List Output) : Type 0 where
     pub earlier : List ℕ
     pub buffered : List ℕ
@@ -50,21 +51,21 @@ module _ {A : Type 0} (c : Commands A) where
     pub asked : (taken.until ≡ unasked) ⊎ (buffered ≡ [])
 
 module _ {A : Type 0} (c : Commands A) (arguments : List (List ℕ)) where
-  -- The arguments request the file with this name in this turn.
+  -- The arguments request the file with the name `name` in the turn `turn`.
   pub record IsWanted (found : Fetches) (turn : ℕ) (name : List ℕ) : Type 0 where
     pub request : Request
     pub asks : Asks arguments request
     pub wants : c.Wants request found turn name
 
-  -- In a turn the requested file is fetched. If none is requested, or if memory ran out before,
-  -- then nothing is fetched.
+  -- If a file is requested in a turn, the file is fetched. If no file is requested, or if memory
+  -- ran out before, nothing is fetched.
   abbrev pub FetchesIn : Change FilesState → Fetches → ℕ → Type 0
   FetchesIn files found turn =
       ((name : List ℕ) × IsWanted found turn name × Fetched files name (found turn name))
       ⊎ ((files.after ≡ files.before)
       × ((name : List ℕ) → IsWanted found turn name → found turn name ≡ unfetched))
 
-  -- Turn by turn the requested files are fetched, and no others.
+  -- The requested files are fetched turn by turn, and no further files are fetched.
   pub record FetchesFor (files : Change FilesState) (found : Fetches) : Type 0 where
     pub turns : ℕ
     pub state : ℕ → FilesState
@@ -74,30 +75,30 @@ module _ {A : Type 0} (c : Commands A) (arguments : List (List ℕ)) where
         → FetchesIn (change (state turn) (state (suc turn))) found turn
     pub all : (turn : ℕ) (name : List ℕ) → IsWanted found turn name → turn < turns
 
-  -- The environment may have provided this in the run.
+  -- The environment may have provided `given` in the run.
   pub record MayBe (call : Call) (given : Given) : Type 0 where
     pub input : Gathers call.input given.input
     pub files : FetchesFor call.files given.files
-    -- If no input is to be read, then no byte of it was read.
+    -- If no input is to be read, then no byte of the input was read.
     pub untaken : ((a : A) → Prepares c arguments given.files (Ok a) → c.Reads a → ⊥)
         → given.input ≡ nothing
 
-  -- The output for the items, if the run came so far. If the run ended before, or has no input,
-  -- then there is no output and no input was read.
+  -- `output` is the output for the items of the input, if the run read items. If the run ended
+  -- before, or has no input, then there is no output and no input was read.
   abbrev pub IsOutputFirst : Given → List Output → Type 0
   IsOutputFirst given output =
       ((given.input ≡ nothing) × (output ≡ []))
       ⊎ ((a : A) × Prepares c arguments given.files (Ok a) × c.Reads a
       × IsPaced c a given.input output)
 
-  -- The output for the first items of the input.
+  -- `output` is the output for some first items of the input.
   abbrev pub OutputsOfFirst : Given → List Output → Type 0
   OutputsOfFirst given output =
       (a : A) × Prepares c arguments given.files (Ok a) × c.Reads a
       × (items : List Item) × (rest : List ℕ) × OutputsFirst c a given.input.bytes items output rest
 
-  -- After the output `output`, everything that belongs to the final reply was written, except
-  -- perhaps its line. The final reply follows from what was provided, or memory ran out.
+  -- After the output `output`, all texts of the final reply were written, except perhaps the
+  -- reply's line. The final reply follows from what was provided, or memory ran out.
   pub record Completes (given : Given) (output : List Output) (call : Call) : Type 0 where
     pub last : Reply
     pub may_end : RunReplies c arguments given (replies output last) ⊎ (last ≡ exits out_of_memory)
@@ -114,7 +115,7 @@ module _ {A : Type 0} (c : Commands A) (arguments : List (List ℕ)) where
     pub err : Writes call.err []
     pub status : call.status ≡ WriteFault
 
-  -- What the environment provided in the run, and what was written.
+  -- The account of the run: what the environment provided, and what was written.
   pub record Account (call : Call) : Type 0 where
     pub given : Given
     pub may_be : MayBe call given

@@ -16,7 +16,7 @@ abbrev pub call : Change ByteState → Change FilesState → Change ByteState �
 call input files out err status =
     record { input = input; files = files; out = out; err = err; status = status }
 
--- The bytes in `out` are known, and the run appended this text.
+-- The bytes in `out` are known, and the run appended the text `text`.
 pub record HasWritten (call : Call) (text : List ℕ) : Type 0 where
   pub before : List ℕ
   pub had : call.out.before.bytes ≡ Some before

@@ -12,7 +12,7 @@ use Rattle.run_spec.specs.runs.Lawful.{IsOnce, IsFound}
 use Rattle.run_spec.specs.runs.RunSpec.{RunSpec}
 
 module _ {A : Type 0} (c : Commands A) where
-  -- For what is provided there is at most one output.
+  -- For each `given`, which is what the environment provides, there is at most one output.
   abbrev pub HaveOneOutcome : Type 0
   HaveOneOutcome = (arguments : List (List ℕ)) (given : Given) → AreBytes given.input.bytes
       → IsOnce (RunReplies c arguments given)
@@ -22,12 +22,12 @@ module _ {A : Type 0} (c : Commands A) where
   HaveOneExit = (a : A) → IsFound c a → (bytes : List ℕ) → AreBytes bytes
       → IsOnce (HaveExit c a bytes)
 
-  -- If the first bytes contain an exit reason, then all bytes contain it.
+  -- If the first bytes contain an exit reason, then all bytes contain the exit reason.
   abbrev pub ExitsStay : Type 0
   ExitsStay = (a : A) → IsFound c a → (n : ℕ) (bytes : List ℕ) (exit : Exit)
       → HaveExit c a (take n bytes) exit → HaveExit c a bytes exit
 
-  -- If the run needs more bytes after these, then they contain no exit reason.
+  -- If the run needs more bytes after `bytes`, then `bytes` contain no exit reason.
   abbrev pub ExitsAreLast : Type 0
   ExitsAreLast = (a : A) → IsFound c a → (bytes : List ℕ) (exit : Exit) → AreBytes bytes
       → HaveExit c a bytes exit

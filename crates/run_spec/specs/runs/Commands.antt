@@ -1,6 +1,7 @@
--- A command in the general form: the files that it requests, its task, and its output for each item
--- of the input. An output (`Output`) is a text and whether it is without errors. An exit reason
--- (`Exit`) is why a run ends. A final reply is an output or an exit reason.
+-- A command in the general form: the files that the command requests, its task, and its output for
+-- each item of the input. An output (`Output`) is a text with a flag that is true if the text
+-- reports no error. An exit reason (`Exit`) is why a run ends. A final reply is an output or an
+-- exit reason.
 use Rattle.std.specs.Prelude.{ℕ, ◌≡◌, ◌⊎◌, List, [], ◌∷◌, ◌++◌, Option, None, Result, MatchResult}
 use Rattle.marshal_spec.specs.format.Tree.{Tree}
 use Rattle.cli_spec.specs.Outcome.{InputEnd, at_end, at_fault, at_length, unasked, Taken, whole}
@@ -15,7 +16,7 @@ pub data Item : Type 0 where
   value : Tree → Item
   text : List ℕ → Item
 
--- The result of fetching a name, for each turn.
+-- The result of fetching a name in a turn, for each turn and name.
 abbrev pub Fetches : Type 0
 Fetches = ℕ → List ℕ → Found
 
@@ -25,35 +26,35 @@ pub record Given : Type 0 where
   pub input : Taken
 
 pub record Commands (A : Type 0) : Type 1 where
-  -- The name to fetch in a turn, given the results of earlier turns.
+  -- The name of the file to fetch in a turn, given the results of earlier turns.
   pub Wants : Request → Fetches → ℕ → List ℕ → Type 0
-  -- The task, or an exit reason before the input is read.
+  -- The task that a request and its files determine, or an exit reason before the input is read.
   pub Finds : Request → Fetches → Result A Exit → Type 0
   -- The task reads the input.
   pub Reads : A → Type 0
-  -- After these items, the bytes are an item followed by the rest.
+  -- After the given items, the bytes are one item followed by the remaining bytes.
   pub IsFirst : A → List Item → List ℕ → Item → List ℕ → Type 0
-  -- After these items, the output for the next item.
+  -- After the given items, the next item has the given output.
   pub Outputs : A → List Item → Item → Output → Type 0
-  -- After these items, the run ends at these bytes, whatever follows them.
+  -- After the given items, the run ends at the given bytes, whatever bytes follow.
   pub Exits : A → List Item → List ℕ → Exit → Type 0
-  -- After these items, the input ends with these bytes, and this is the final reply.
+  -- After the given items, the input ends with the given bytes and leads to the given final reply.
   pub Ends : A → List Item → List ℕ → Reply → Type 0
 
 module _ {A : Type 0} (c : Commands A) where
-  -- The arguments are parsed, and then the task is found.
+  -- The arguments are parsed as a request, for which the task is found.
   abbrev pub Prepares : List (List ℕ) → Fetches → Result A Exit → Type 0
   Prepares arguments files = Then (ReadsArguments arguments) (λ request. c.Finds request files)
 
   module _ (a : A) where
-    -- After the items `before`, the bytes are these items followed by the rest.
+    -- After the items `before`, the bytes are the given items followed by `rest`.
     abbrev pub Split : List Item → List ℕ → List Item → List ℕ → Type 0
     Split before bytes [] rest = bytes ≡ rest
     Split before bytes (item ∷ items) rest =
         (more : List ℕ) × c.IsFirst a before bytes item more
         × Split (before ++ item ∷ []) more items rest
 
-    -- After the items `before`, these are the outputs for the next items.
+    -- After the items `before`, the next items have the given outputs.
     abbrev pub AllPrint : List Item → List Item → List Output → Type 0
     AllPrint before [] [] = Unit {0}
     AllPrint before [] (output ∷ more) = ⊥
@@ -61,19 +62,22 @@ module _ {A : Type 0} (c : Commands A) where
     AllPrint before (item ∷ items) (output ∷ more) =
         c.Outputs a before item output × AllPrint (before ++ item ∷ []) items more
 
-    -- The bytes are items followed by the rest, and `output` are the outputs for the items.
+    -- The bytes are the items `items` followed by `rest`, and `output` is the list of the items'
+    -- outputs.
     pub record OutputsFirst (bytes : List ℕ) (items : List Item) (output : List Output)
         (rest : List ℕ)
         : Type 0 where
       pub split : Split [] bytes items rest
       pub all_print : AllPrint [] items output
 
-    -- The run continues: the bytes are no complete item, and the run does not end at them.
+    -- The run continues, because the bytes are no complete item and the run does not end at the
+    -- bytes.
     pub record GoesOn (items : List Item) (bytes : List ℕ) : Type 0 where
       pub no_exit : (exit : Exit) → c.Exits a items bytes exit → ⊥
       pub no_item : (item : Item) (more : List ℕ) → c.IsFirst a items bytes item more → ⊥
 
-    -- The bytes contain an exit reason: after some items with an output, the run ends with it.
+    -- The bytes contain an exit reason: after some items with an output, the run ends with the exit
+    -- reason.
     pub record HaveExit (bytes : List ℕ) (exit : Exit) : Type 0 where
       pub items : List Item
       pub output : List Output
@@ -81,28 +85,28 @@ module _ {A : Type 0} (c : Commands A) where
       pub first : OutputsFirst bytes items output rest
       pub at : c.Exits a items rest exit
 
-    -- The final reply if there is no more input.
+    -- The final reply if no more input can be read.
     abbrev pub Closes : List Item → List ℕ → InputEnd → Reply → Type 0
     Closes items rest at_end last = c.Ends a items rest last
     Closes items rest at_fault last = last ≡ exits read_fault
     Closes items rest at_length last = last ≡ exits too_long
     Closes items rest unasked last = ⊥
 
-    -- The final reply is an exit reason in an input that did not fail, or it comes after all of the
+    -- The final reply is an exit reason in an input that did not fail, or follows after all of the
     -- input was requested.
     abbrev pub IsLast : List Item → List ℕ → InputEnd → Reply → Type 0
     IsLast items rest until last =
         ((exit : Exit) × c.Exits a items rest exit × (fault_of until ≡ None) × (last ≡ exits exit))
         ⊎ (GoesOn items rest × Closes items rest until last)
 
-    -- The outputs for the input, and the final reply.
+    -- The outputs for the items of the input, and the final reply.
     pub record OutputsAll (input : Taken) (all : Replies) : Type 0 where
       pub items : List Item
       pub rest : List ℕ
       pub first : OutputsFirst input.bytes items all.output rest
       pub last : IsLast items rest input.until all.last
 
-    -- If no input is read, then there is only a final reply.
+    -- The final reply alone, for a task that reads no input.
     pub record OutputsAlone (all : Replies) : Type 0 where
       pub unread : c.Reads a → ⊥
       pub none : all.output ≡ []

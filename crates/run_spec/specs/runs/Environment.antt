@@ -1,4 +1,4 @@
--- The environment of a run, for any command: failed operations, and how they change the state.
+-- The environment of a run, for any command: failed operations, and how failures change the state.
 use Rattle.std.specs.Prelude.{ℕ, ◌^◌, ◌<◌, ◌≤◌, ◌≡◌, ◌⊎◌, List, length, Some, None, IsSomeAnd}
 use Rattle.cli_spec.specs.declared.status.Status.{Status}
 use Rattle.cli_spec.specs.declared.status.Status.TheVariants.{ReadFault, WriteFault, OpenFault}
@@ -19,14 +19,14 @@ pub record KeepFiles (files : Change FilesState) : Type 0 where
   pub reading : files.before.read_faults ≤ files.after.read_faults
   pub reading_at_last : files.before.read_faults ≡ last_count → files.after.read_faults ≡ last_count
 
--- The line of the ending is written to `err`, and its status is returned. Otherwise the line could
--- not be written completely, and the status is 7.
+-- If the line of the ending is written to `err`, the ending's status is returned. If the line could
+-- not be written completely, the status is 7.
 abbrev pub WritesLine : Change ByteState → Status → Ending → Type 0
 WritesLine err status ending =
     (Writes err ending.err × (status ≡ ending.status))
     ⊎ (WritesPart err ending.err × (status ≡ WriteFault))
 
--- One text was written completely, and the next one was not.
+-- The text `text` was written completely, and the text `next` was not.
 abbrev pub WritesPartAfter : Change ByteState → List ℕ → List ℕ → Type 0
 WritesPartAfter sink text next =
     (between : ByteState) × Writes (change sink.before between) text
@@ -38,7 +38,8 @@ WritesPartAfter sink text next =
 abbrev pub AreShort : List File → Type 0
 AreShort files = (name bytes : List ℕ) → contents_of files name ≡ Some bytes → length bytes < 2 ^ 48
 
--- The input and the files are known and short enough, and no operation on them failed.
+-- The input and the files are known and short enough, and no operation on the input or the files
+-- failed.
 pub record IsOkRead (call : Call) (input : List ℕ) (files : List File) : Type 0 where
   pub input_known : call.input.before.bytes ≡ Some input
   pub files_known : call.files.before.map ≡ Some files
@@ -48,7 +49,8 @@ pub record IsOkRead (call : Call) (input : List ℕ) (files : List File) : Type 
   pub opens : ¬ RoseOrLast call.files.before.open_faults call.files.after.open_faults
   pub reads : ¬ RoseOrLast call.files.before.read_faults call.files.after.read_faults
 
--- A fault-free run: in addition, no operation on `out` or `err` failed.
+-- A fault-free run: the input and the files are read without errors, and no operation on `out` or
+-- `err` failed.
 pub record IsHonest (call : Call) (input : List ℕ) (files : List File) : Type 0 where
   pub ok_read : IsOkRead call input files
   pub out : ¬ RoseOrLast call.out.before.faults call.out.after.faults
@@ -62,21 +64,21 @@ IsWriteOrMemoryError status = (status ≡ Memory) ⊎ (status ≡ WriteFault)
 abbrev pub IsEnvironment : Status → Type 0
 IsEnvironment status = (status ≡ ReadFault) ⊎ ((status ≡ OpenFault) ⊎ IsWriteOrMemoryError status)
 
--- Status 6 is returned only if a fault count increased or is at its last value: that of the input,
--- or the count of the files' read faults.
+-- If status 6 is returned, then the fault count of the input or the count of the files' read faults
+-- increased or is at its last value.
 abbrev pub OnlyReadFault : Call → Type 0
 OnlyReadFault call = call.status ≡ ReadFault
     → RoseOrLast call.input.before.faults call.input.after.faults
     ⊎ RoseOrLast call.files.before.read_faults call.files.after.read_faults
 
--- Status 7 is returned only if the fault count of `out` or `err` did so.
+-- If status 7 is returned, then the fault count of `out` or `err` increased or is at its last
+-- value.
 abbrev pub OnlyWriteFault : Call → Type 0
 OnlyWriteFault call = call.status ≡ WriteFault
     → RoseOrLast call.out.before.faults call.out.after.faults
     ⊎ RoseOrLast call.err.before.faults call.err.after.faults
 
--- A failed operation is never reported as success: if a fault count increased, the status is 6, 7,
--- 8 or 9.
+-- If the fault count of `out` or `err` increased, then the status is 7.
 pub record ReportsWriteFault (call : Call) : Type 0 where
   pub out : call.out.before.faults < call.out.after.faults → call.status ≡ WriteFault
   pub err : call.err.before.faults < call.err.after.faults → call.status ≡ WriteFault
@@ -92,15 +94,16 @@ pub record ReportsReadFault (call : Call) : Type 0 where
   pub file : call.files.before.read_faults < call.files.after.read_faults
       → (call.status ≡ ReadFault) ⊎ IsWriteOrMemoryError call.status
 
--- Opening the file with this name failed, or the file map is known and does not have the name.
+-- Opening the file with the name `name` failed, or the file map is known and does not have the
+-- name.
 abbrev pub CannotOpen : Change FilesState → List ℕ → Type 0
 CannotOpen files name =
     (RoseOrLast files.before.open_faults files.after.open_faults
     × (files.after.last_open_fault ≡ Some name))
     ⊎ IsSomeAnd files.before.map (λ all. contents_of all name ≡ None)
 
--- The bytes ended at a fault, or were too many. The status reports the reason, and `err` has its
--- line.
+-- The bytes ended at a fault, or were too many. The status reports the reason, and `err` has the
+-- line of the reason.
 pub record ReportsFault (until : InputEnd) (call : Call) : Type 0 where
   pub exit : Exit
   pub is_fault : fault_of until ≡ Some exit

@@ -1,6 +1,7 @@
--- An example of lawful commands. The command reads a file. If the file is empty, it reads no input
--- and prints a line. Otherwise it repeats each line of the input up to one that begins with byte
--- 255, which it refuses. At the end it prints the bytes after the last line feed.
+-- An example of lawful commands. The command reads a file. If the file is empty, the command reads
+-- no input and prints a line. If the file is not empty, the command repeats each line of the input
+-- up to a line that begins with byte 255, which the command refuses. At the end of the input, the
+-- command prints the bytes after the last line feed.
 use Rattle.std.specs.Prelude.{ℕ, ◌≡◌, ◌≢◌, Bool, true, false, IsTrue, List, [], ◌∷◌, ◌++◌, length}
 use Rattle.std.specs.Prelude.{Ok, codes}
 use Rattle.cli_spec.specs.Outcome.{Output, Reply, outputs, replies, Taken, whole, Then, ReadsFile}
@@ -8,11 +9,11 @@ use Rattle.cli_spec.specs.declared.exit.Exit.{Exit}
 use Rattle.cli_spec.specs.declared.exit.Exit.TheVariants.{Value as value}
 use Rattle.run_spec.specs.runs.Commands.{Item, text, Commands, Answers}
 
--- The name of the file.
+-- The name of the file that the example reads.
 abbrev pub example_name : List ℕ
 example_name = codes "example"
 
--- There is at least one byte.
+-- The list has at least one byte.
 abbrev pub has_bytes : List ℕ → Bool
 has_bytes [] = false
 has_bytes (b ∷ more) = true
@@ -21,7 +22,7 @@ has_bytes (b ∷ more) = true
 abbrev pub ok_output : List ℕ → Output
 ok_output bytes = record { text = bytes; ok = true }
 
--- The bytes are the line, a line feed, and the rest.
+-- The bytes are the line `line`, a line feed, and the bytes `more`.
 abbrev pub IsLine : List ℕ → List ℕ → List ℕ → Type 0
 IsLine [] line more = ⊥
 IsLine (b ∷ bytes) [] more = (b ≡ 10) × (bytes ≡ more)
@@ -35,12 +36,12 @@ abbrev pub IsFine : List ℕ → Type 0
 IsFine [] = Unit {0}
 IsFine (b ∷ line) = b ≢ 255
 
--- The command repeats such a line.
+-- The command repeats a line that does not begin with byte 255.
 abbrev pub OutputsLine : Item → Output → Type 0
 OutputsLine item output =
     (line : List ℕ) × IsFine line × (item ≡ text line) × (output ≡ ok_output (line ++ 10 ∷ []))
 
--- The command refuses any other line.
+-- The command refuses a line that begins with byte 255.
 abbrev pub ExitsAtLine : List Item → List ℕ → Exit → Type 0
 ExitsAtLine items bytes exit =
     (more : List ℕ) × (bytes ≡ 255 ∷ more) × (exit ≡ value (length items) (codes "Example"))

@@ -16,23 +16,24 @@ is_fault at_fault = true
 is_fault at_length = false
 is_fault unasked = false
 
--- An operation on the input requests at most this many bytes.
+-- The greatest number of bytes that an operation on the input requests.
 abbrev pub chunk_limit : ℕ
 chunk_limit = 65536
 
--- After 2^48 bytes no more are requested, and an operation returns at most one chunk.
+-- After 2^48 bytes no more bytes are requested, and an operation returns at most one chunk.
 abbrev pub IsMeasured : InputEnd → ℕ → Type 0
 IsMeasured at_end n = n < 2 ^ 48
 IsMeasured at_fault n = n < 2 ^ 48
 IsMeasured at_length n = (2 ^ 48 ≤ n) × (n < 2 ^ 48 + chunk_limit)
 IsMeasured unasked n = n < 2 ^ 48 + chunk_limit
 
--- The bytes read are a prefix of the source, and at the end of the source none remain.
+-- The bytes read are a prefix of the source. If the end of the source was reached, no bytes remain.
 pub record TakesFrom (bytes : List ℕ) (taken : Taken) (rest : List ℕ) : Type 0 where
   pub prefix : bytes ≡ taken.bytes ++ rest
   pub ends : taken.until ≡ at_end → rest ≡ []
 
--- The bytes were read from a source. An operation failed if and only if they end for this reason.
+-- The bytes `taken` were read from a source. An operation failed if and only if the bytes end
+-- because of a fault.
 pub record Gathers (source : Change ByteState) (taken : Taken) : Type 0 where
   pub known : IfSome source.before.bytes
       (λ bytes. (rest : List ℕ) × TakesFrom bytes taken rest × (source.after.bytes ≡ Some rest))
@@ -40,7 +41,7 @@ pub record Gathers (source : Change ByteState) (taken : Taken) : Type 0 where
   pub are_bytes : AreBytes taken.bytes
   pub cause : HasCause source.before.faults source.after.faults (is_fault taken.until)
 
--- If the contents of a source are known, then they are bytes.
+-- If the contents of a source are known, then each element of the contents is a byte.
 abbrev pub ReportsBytes : Change ByteState → Type 0
 ReportsBytes source = IfSome source.before.bytes AreBytes
 
@@ -72,7 +73,8 @@ IsMeasuredFile missing = Unit {0}
 IsMeasuredFile failed = Unit {0}
 IsMeasuredFile unfetched = Unit {0}
 
--- The result of fetching the name. Opening or reading failed if and only if the result says so.
+-- The result of fetching the name `name`. Opening or reading failed if and only if the result
+-- reports the failure.
 pub record Fetched (files : Change FilesState) (name : List ℕ) (found : Found) : Type 0 where
   pub map : IfSome files.before.map (λ all. IsFoundOf (contents_of all name) found)
   pub known : found ≡ missing → IsSome files.before.map

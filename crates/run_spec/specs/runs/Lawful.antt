@@ -1,5 +1,5 @@
--- Lawful commands: each relation has at most one answer, and the items and exit reasons of a prefix
--- remain if more bytes follow.
+-- Lawful commands. Each relation of a lawful command has at most one answer. The items and exit
+-- reasons of a prefix remain if more bytes follow.
 use Rattle.std.specs.Prelude.{ℕ, ◌<◌, ◌≡◌, ◌⊎◌, List, ◌++◌, length, Result, Ok, Err}
 use Rattle.base_data.specs.model.Bytes.{AreBytes}
 use Rattle.cli_spec.specs.Outcome.{Found, opened, missing, whole, Request, ReadsFile, Output, exits}
@@ -23,7 +23,7 @@ use Rattle.cli_spec.specs.declared.exit.Exit.TheVariants.{TooLong as too_long}
 use Rattle.cli_spec.specs.declared.exit.Exit.TheVariants.{Memory as out_of_memory}
 use Rattle.run_spec.specs.runs.Commands.{Item, Fetches, Commands}
 
--- There is at most one answer.
+-- At most one element satisfies `P`.
 abbrev pub IsOnce : {X : Type 0} → (X → Type 0) → Type 0
 IsOnce {X} P = (x y : X) → P x → P y → x ≡ y
 
@@ -55,7 +55,7 @@ abbrev pub IsWhole : Found → Type 0
 IsWhole found = ((bytes : List ℕ) × (found ≡ opened (whole bytes))) ⊎ (found ≡ missing)
 
 module _ {A : Type 0} (c : Commands A) where
-  -- A requested file was not read completely, and this ends the run.
+  -- A requested file was not read completely, which ends the run.
   pub record FailsAtFile (request : Request) (files : Fetches) (result : Result A Exit)
       : Type 0 where
     pub turn : ℕ
@@ -65,12 +65,12 @@ module _ {A : Type 0} (c : Commands A) where
     pub fault : ReadsFile name (files turn name) (Err exit)
     pub is : result ≡ Err exit
 
-  -- Some files lead to this task.
+  -- Some request and some files lead to the task `a`.
   abbrev pub IsFound : A → Type 0
   IsFound a = (request : Request) × (files : Fetches) × c.Finds request files (Ok a)
 
   pub record AreLawfulAt (a : A) : Type 0 where
-    -- Uniqueness.
+    -- The laws of uniqueness: each relation has at most one answer.
     pub first_once : (items : List Item) (bytes : List ℕ) → AreBytes bytes
         → (item other : Item) (more rest : List ℕ)
         → c.IsFirst a items bytes item more → c.IsFirst a items bytes other rest
@@ -80,7 +80,8 @@ module _ {A : Type 0} (c : Commands A) where
         → IsOnce (c.Exits a items bytes)
     pub ends_once : (items : List Item) (bytes : List ℕ) → AreBytes bytes
         → IsOnce (c.Ends a items bytes)
-    -- Prefixes: an item has at least one byte. Items and exit reasons remain if more bytes follow.
+    -- The laws of prefixes: an item has at least one byte. Items and exit reasons remain if more
+    -- bytes follow.
     pub prefix : (items : List Item) (bytes : List ℕ) (item : Item) (more : List ℕ)
         → c.IsFirst a items bytes item more
         → (first : List ℕ) × (bytes ≡ first ++ more) × (0 < length first)
@@ -94,7 +95,8 @@ module _ {A : Type 0} (c : Commands A) where
         → c.Exits a items bytes exit → IsInner exit
     pub ends_inside : (items : List Item) (bytes : List ℕ) (exit : Exit)
         → c.Ends a items bytes (exits exit) → IsInner exit
-    -- Disjointness: no item has an output if the run ends at its bytes.
+    -- The law of disjointness: if the run ends at the bytes of an item, then the item has no
+    -- output.
     pub disjoint : (items : List Item) (bytes : List ℕ) → AreBytes bytes
         → (item : Item) (more : List ℕ) (output : Output) (exit : Exit)
         → c.IsFirst a items bytes item more → c.Outputs a items item output
@@ -110,7 +112,7 @@ module _ {A : Type 0} (c : Commands A) where
         → ((turn : ℕ) (name : List ℕ) → c.Wants request files turn name
         → files turn name ≡ others turn name)
         → c.Finds request files result → c.Finds request others result
-    -- Each requested file is read completely or does not exist, or it ends the run.
+    -- Each requested file is read completely, does not exist, or ends the run.
     pub reads_wanted : (request : Request) (files : Fetches) (result : Result A Exit)
         → c.Finds request files result
         → (turn : ℕ) (name : List ℕ) → c.Wants request files turn name
@@ -123,7 +125,7 @@ module _ {A : Type 0} (c : Commands A) where
     pub at : (a : A) → IsFound a → AreLawfulAt a
 
   -- Commands that request their files turn by turn. A request depends only on the earlier turns. A
-  -- requested file is read, or it ends the run. After a file that was not read, nothing more is
+  -- requested file is read or ends the run. After a file that was not read, nothing more is
   -- requested.
   pub record AreInTurns : Type 0 where
     pub by_earlier : (request : Request) (files others : Fetches) (turn : ℕ) (name : List ℕ)

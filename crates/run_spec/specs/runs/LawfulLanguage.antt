@@ -1,10 +1,10 @@
--- A lawful language: a text has at most one reading, and at a type that was read, a value has at
--- most one line and one result of edits.
+-- A lawful language. A text has at most one reading. At a type that was read, a value has at most
+-- one line and one result of edits.
 use Rattle.std.specs.Prelude.{ℕ, ◌≡◌, Bool, List, Some, None, Result, Ok, Err}
 use Rattle.marshal_spec.specs.format.Tree.{Tree}
 use Rattle.cli_spec.specs.Outcome.{AskedType, Language, Query, Unedited}
 
--- Some text is read as this type, over declarations that are read from some text.
+-- Some text is read as the type `t`, over declarations that are read from some text.
 abbrev pub IsGiven : {D T E : Type 0} → Language D T E → T → Type 0
 IsGiven {D} language t =
     (text : List ℕ) × (type : AskedType) × (d : D)

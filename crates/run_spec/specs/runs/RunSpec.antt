@@ -1,5 +1,5 @@
--- The specification of a run by commands in the general form, and definitions of what follows from
--- it.
+-- The specification of a run by commands in the general form, and definitions of the
+-- specification's consequences.
 use Rattle.std.specs.Prelude.{ℕ, ◌^◌, ◌<◌, ◌≡◌, ◌≢◌, ◌⊎◌, List, length, take, Some, IfSome, Ok, Err}
 use Rattle.cli_spec.specs.declared.status.Status.{Status}
 use Rattle.cli_spec.specs.declared.status.Status.TheVariants.{Usage, ReadFault, Memory, TooLong}
@@ -17,7 +17,7 @@ use Rattle.run_spec.specs.runs.Environment.{AreShort, IsHonest, IsWriteOrMemoryE
 use Rattle.run_spec.specs.runs.Environment.{ReportsReadFault}
 use Rattle.run_spec.specs.runs.Environment.{ReportsOpenFault, ReportsWriteFault}
 
--- The known files, the same in each turn.
+-- The known files, with equal results in each turn.
 abbrev pub known_files : List File → Fetches
 known_files files = λ turn name. found_of (contents_of files name)
 
@@ -28,7 +28,7 @@ pub record ReportsFaults (call : Call) : Type 0 where
   pub writes : ReportsWriteFault call
 
 module _ {A : Type 0} (c : Commands A) where
-  -- No exit reason is in these bytes, and at the end of the input the final reply is `last`.
+  -- The bytes contain no exit reason. If the input ends after the bytes, the final reply is `last`.
   pub record HoldEnd (a : A) (bytes : List ℕ) (output : List Output) (last : Reply) : Type 0 where
     pub items : List Item
     pub rest : List ℕ
@@ -36,8 +36,9 @@ module _ {A : Type 0} (c : Commands A) where
     pub goes_on : GoesOn c a items rest
     pub ends : c.Ends a items rest last
 
-  -- The input determines this status: it contains an exit reason with this status, or it ends with
-  -- such a reply. If the input is not read, the only reply has this status.
+  -- The input determines the status `status`. If the input is read, the input contains an exit
+  -- reason with the status or ends with a reply that has the status. If the input is not read, the
+  -- only reply has the status.
   abbrev pub Gives : A → List ℕ → Status → Type 0
   Gives a input status =
       (c.Reads a × (exit : Exit) × (status_of exit ≡ status) × HaveExit c a input exit)
@@ -45,8 +46,8 @@ module _ {A : Type 0} (c : Commands A) where
       × ((c.Reads a × HoldEnd a input all.output all.last) ⊎ OutputsAlone c a all))
 
   module _ (arguments : List (List ℕ)) where
-    -- The arguments, the files and the input have an outcome, and `out`, `err` and the status agree
-    -- with it.
+    -- The arguments, the files and the input have an outcome, with which `out`, `err` and the
+    -- status agree.
     pub record HasOutcome (call : Call) (input : List ℕ) (files : List File) : Type 0 where
       pub all : Replies
       pub outcome : Outcome c arguments (contents_of files) input all
@@ -69,7 +70,8 @@ module _ {A : Type 0} (c : Commands A) where
       pub is : status ≡ (ending_of all).status
 
     pub record RunSpec (call : Call) : Type 0 where
-      -- What the environment provided, the output for it, and how much of the output was written.
+      -- The account of the run: what the environment provided, and how much of the output was
+      -- written.
       pub account : Account c arguments call
       -- Unless memory runs out, a fault-free run has the outcome of the arguments, the files and
       -- the input.
@@ -94,7 +96,7 @@ module _ {A : Type 0} (c : Commands A) where
         × (a : A) × Prepares c arguments found (Ok a)
         × (input : List ℕ) × IfSome call.input.before.bytes (λ bytes. bytes ≡ input) × Holds a input
 
-    -- The run ends before the input is read.
+    -- The run ends with the status `status` before the input is read.
     pub record ExitsBefore (call : Call) (status : Status) : Type 0 where
       pub found : Fetches
       pub files : FetchesFor c arguments call.files found
@@ -111,7 +113,8 @@ module _ {A : Type 0} (c : Commands A) where
         (IsUsage arguments × (status ≡ Usage))
         ⊎ (ExitsBefore call status ⊎ AtInput call (λ a input. Gives a input status))
 
-    -- If the status is none of 6, 7, 9 and 10, then it has this meaning.
+    -- If the run returns `status`, and the status is none of 6, 7, 9 and 10, then `Means` holds for
+    -- the status.
     abbrev pub OnlyMeant : Call → Status → Type 0
     OnlyMeant call status =
         status ≢ ReadFault → status ≢ TooLong → (IsWriteOrMemoryError status → ⊥)
@@ -126,20 +129,20 @@ module _ {A : Type 0} (c : Commands A) where
       pub reads : c.Reads a
       pub input : call.input.before.bytes ≡ Some bytes
 
-    -- If the first 2^48 bytes of the known input contain an exit reason, then the status is that of
-    -- the exit reason, or 6 to 9.
+    -- Suppose the first 2^48 bytes of the known input contain an exit reason. Then the status is
+    -- that of the exit reason, or a status from 6 to 9.
     abbrev pub IfExit : Call → Type 0
     IfExit call = (a : A) (bytes : List ℕ) (exit : Exit) → ReportsTask call a bytes
         → HaveExit c a (take (2 ^ 48) bytes) exit
         → (call.status ≡ status_of exit) ⊎ IsEnvironment call.status
 
-    -- If the known input is short enough and ends with this reply, then the status is that of the
-    -- reply, or 6 to 9.
+    -- If the known input is short enough and ends with a reply, then the status is that of the
+    -- reply, or a status from 6 to 9.
     abbrev pub IfEnd : Call → Type 0
     IfEnd call = (a : A) (bytes : List ℕ) (all : Replies) → ReportsTask call a bytes
         → length bytes < 2 ^ 48 → HoldEnd a bytes all.output all.last
         → (call.status ≡ (ending_of all).status) ⊎ IsEnvironment call.status
 
-    -- If the arguments are no request, then the status is 2, or 7 or 9.
+    -- If the arguments are no request, then the status is 2, 7 or 9.
     abbrev pub IfUsage : Call → Type 0
     IfUsage call = IsUsage arguments → (call.status ≡ Usage) ⊎ IsWriteOrMemoryError call.status

@@ -4,7 +4,7 @@ use Rattle.base_data.specs.model.Bytes.{AreBytes}
 use Rattle.marshal_spec.specs.format.Tree.{Tree}
 use Rattle.marshal_spec.specs.format.Stream.{End, Stream}
 
--- The bytes are these values followed by this end, and nothing else.
+-- The bytes are the values `trees` followed by the end `end`, and no further stream.
 pub record IsStream (limit : ℕ) (bytes : List ℕ) (trees : List Tree) (end : End) : Type 0 where
   pub holds : Stream bytes limit trees end
   pub only : (others : List Tree) (other : End) → Stream bytes limit others other

@@ -16,7 +16,7 @@ use Rattle.run_spec.specs.runs.Commands.{Item, value as value_item, Fetches, Com
 abbrev pub by_turns : Fetches → outcome.Fetches
 by_turns files = record { file = files 0; script = files 1 }
 
--- Values as items of the input.
+-- The values, each as an item of the input.
 abbrev pub items_of : List Tree → List Item
 items_of [] = []
 items_of (tree ∷ trees) = value_item tree ∷ items_of trees
@@ -24,18 +24,18 @@ items_of (tree ∷ trees) = value_item tree ∷ items_of trees
 module _ {D T E : Type 0} (language : Language D T E) where
   -- ---- the files
 
-  -- If the arguments have a PATH, then it is a valid path.
+  -- If the arguments have a PATH, then the PATH is a valid path.
   abbrev pub HasPath : Request → Type 0
   HasPath request =
       IfSome (path_of request) (λ text. (path : List ℕ) × language.ReadsPath text (Some path))
 
-  -- FILE is requested unless there is an invalid PATH.
+  -- The request asks for FILE and has no invalid PATH.
   pub record WantsFile (request : Request) (name : List ℕ) : Type 0 where
     pub has_path : HasPath request
     pub type : AskedType
     pub typed : typed_by request ≡ Some (name, type)
 
-  -- SCRIPT is requested if FILE and TYPE are read without errors.
+  -- The request asks for SCRIPT, and FILE and TYPE are read without errors.
   pub record WantsScript (request : Request) (files : Fetches) (name : List ℕ) : Type 0 where
     pub scripted : script_of request ≡ Some name
     pub typed : List ℕ × AskedType
@@ -47,7 +47,7 @@ module _ {D T E : Type 0} (language : Language D T E) where
   Wants request files turn name =
       ((turn ≡ 0) × WantsFile request name) ⊎ ((turn ≡ 1) × WantsScript request files name)
 
-  -- The task for the values, with their limit.
+  -- The task for the values of the input, with the limit on a value.
   abbrev pub Finds : Request → Fetches → Result (Task T E) Exit → Type 0
   Finds request files =
       Then (FindsWork language (by_turns files) request) (λ work found.
@@ -55,14 +55,14 @@ module _ {D T E : Type 0} (language : Language D T E) where
 
   -- ---- the values
 
-  -- The bytes are a value within the limit, followed by the rest.
+  -- The bytes are a value within the limit, followed by the bytes `more`.
   pub record IsFirstValue (limit : ℕ) (bytes : List ℕ) (item : Item) (more : List ℕ)
       : Type 0 where
     pub tree : Tree
     pub is : item ≡ value_item tree
     pub encoded : EncodeAll limit bytes (tree ∷ []) more
 
-  -- After these values, this is the output for the next one.
+  -- After the values `earlier`, the next value has the output `output`.
   pub record OutputsOf (work : Work T E) (items : List Item) (item : Item) (output : Output)
       : Type 0 where
     pub earlier : List Tree
@@ -71,21 +71,21 @@ module _ {D T E : Type 0} (language : Language D T E) where
     pub is : item ≡ value_item tree
     pub outputs : outcome.Outputs language work earlier tree output
 
-  -- After `n` values the command accepts one more.
+  -- After `n` values the command accepts one more value.
   abbrev pub MayCome : Work T E → ℕ → Type 0
   MayCome (reports query type) n = Unit {0}
   MayCome (edits type script compat) n = Unit {0}
   MayCome dumps n = Unit {0}
   MayCome compares n = n < 2
 
-  -- The command accepts one more value, but the bytes here are refused.
+  -- The command accepts one more value after `n` values, and the bytes `bytes` are refused.
   pub record IsRefused (a : Task T E) (n : ℕ) (bytes : List ℕ) (exit : Exit) : Type 0 where
     pub may : MayCome a.work n
     pub refusal : ReadRefusal
     pub tail : IsTail a.limit bytes (refused refusal)
     pub is : exit ≡ value n (refusal_text refusal)
 
-  -- The command ends here, or the value here is refused.
+  -- At the bytes `bytes`, the command ends the run, or the next value is refused.
   pub record ExitsHere (a : Task T E) (items : List Item) (bytes : List ℕ) (exit : Exit)
       : Type 0 where
     pub trees : List Tree

@@ -1,4 +1,4 @@
-//! The theorems as contracts of lemma functions, which do nothing themselves.
+//! The theorems about causes of statuses, as contracts of lemma functions without a body.
 
 ghost use Rattle.run_spec.specs.runs.CommandLaws.{Follow};
 ghost use Rattle.run_spec.specs.runs.Commands.{Commands};
@@ -17,7 +17,7 @@ pub trait Meant {
     ghost tables: { Tables acts };
 }
 
-/// The commands without the tables.
+/// The commands of `M` without their tables.
 pub struct Of<M>(PhantomData<M>);
 
 impl<M: Meant> Act for Of<M> {
@@ -26,8 +26,8 @@ impl<M: Meant> Act for Of<M> {
     ghost commands = { M.commands };
 }
 
-/// States that an input determines a status if and only if the tables say so, if the tables are
-/// exact.
+/// States that an input determines a status if and only if the tables list the status for the
+/// input, if the tables are exact.
 pub fn tables_show<M: Meant>()
     requires { AreExact M.commands M.tables }
     ensures { HaveShown M.commands M.tables }

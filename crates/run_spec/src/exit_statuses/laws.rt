@@ -1,4 +1,4 @@
-//! The theorem as the contract of a lemma function, which does nothing itself.
+//! The theorem about exit statuses, as the contract of a lemma function without a body.
 
 ghost use Rattle.run_spec.specs.exit_causes.Causes.{AreExact};
 ghost use Rattle.run_spec.specs.value_commands.Tasks.{commands};
@@ -20,8 +20,8 @@ impl<L: Prints> Meant for MeantValues<L> {
     ghost tables = { values_tables L.language };
 }
 
-/// States that the tables are exact. They describe how values end a run, how an input ends, and how
-/// the arguments and the files end a run.
+/// States that the tables are exact. The tables describe how values end a run, how an input ends,
+/// and how the arguments and the files end a run.
 pub fn values_have_exit_statuses<L: Prints>()
     ensures { AreExact (commands L.language) (values_tables L.language) }
 {}

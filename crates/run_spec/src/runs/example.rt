@@ -1,4 +1,4 @@
-//! An example of lawful commands. It shows that the theorems are not vacuous.
+//! An example of lawful commands, which shows that the theorems are not vacuous.
 
 ghost use Rattle.std.specs.Prelude.{Bool};
 ghost use Rattle.run_spec.specs.runs.CommandLaws.{HaveOneOutcome, ArePromised, Follow};
@@ -14,8 +14,8 @@ impl Act for bool {
     ghost commands = { example };
 }
 
-/// States that the example has at most one outcome. The command reads a file, and then repeats each
-/// line of the input up to the first line that it refuses.
+/// States that the example has at most one outcome. The example's command reads a file, and repeats
+/// each line of the input up to the first line that the command refuses.
 pub fn example_has_one_outcome()
     ensures { HaveOneOutcome example }
 {

@@ -1,15 +1,15 @@
-//! The theorems as contracts of lemma functions, which do nothing.
+//! The theorems about runs, as contracts of lemma functions without a body.
 
 ghost use Rattle.run_spec.specs.runs.Causes.{AreAsKnown, AreMeant, IfAlone, IfArguments};
 ghost use Rattle.run_spec.specs.runs.Causes.{OnlyOpenFault};
 ghost use Rattle.run_spec.specs.runs.Causes.{OnlyTooLong, IfMissing, IfFileTooLong, IfFiles};
 ghost use Rattle.run_spec.specs.runs.Causes.{IfInputTooLong, IfInputFails, IfMemory, IfWriteFault};
 ghost use Rattle.run_spec.specs.runs.Causes.{IsDecided, IsExact, IsComplete};
-ghost use Rattle.run_spec.specs.runs.CommandLaws.{HaveOneOutcome, HaveOneExit, ExitsStay};
-ghost use Rattle.run_spec.specs.runs.CommandLaws.{ExitsAreLast, ArePromised, Follow};
+ghost use Rattle.run_spec.specs.runs.CommandLaws.{ArePromised, Follow};
 ghost use Rattle.run_spec.specs.runs.Commands.{Commands};
 ghost use Rattle.run_spec.specs.runs.Lawful.{AreLawful, AreInTurns};
 ghost use Rattle.run_spec.specs.runs.Environment.{OnlyReadFault, OnlyWriteFault};
+ghost use Rattle.run_spec.specs.runs.RunLaws.{AnswerOnce, KeepRunSpec};
 ghost use Rattle.run_spec.specs.runs.RunSpec.{IfExit, IfEnd, IfUsage};
 ghost use Rattle.run_spec.specs.runs.StreamLaws.{HasOneStream};
 
@@ -28,13 +28,10 @@ pub trait Act {
 }
 
 /// States that lawful commands have at most one outcome. The input contains at most one exit
-/// reason. It remains if more bytes follow, and it comes last.
+/// reason. The exit reason remains if more bytes follow, and comes last.
 pub fn lawful_commands<A: Act>()
     requires { AreLawful A.commands }
-    ensures outcome { HaveOneOutcome A.commands }
-    ensures exit { HaveOneExit A.commands }
-    ensures stays { ExitsStay A.commands }
-    ensures last { ExitsAreLast A.commands }
+    ensures { AnswerOnce A.commands }
 {}
 
 /// States that the specification of a run follows from the account of the run, if the commands are
@@ -44,8 +41,8 @@ pub fn promised<A: Act>()
     ensures { ArePromised A.commands }
 {}
 
-/// States what follows from the specification: when a status must be returned, and what a returned
-/// status means.
+/// States what follows from the specification of a run: when a status must be returned, and what a
+/// returned status means.
 pub fn run_spec_of_commands<A: Act>()
     requires { AreLawful A.commands }
     ensures exit { Follow A.commands (IfExit A.commands) }
@@ -67,8 +64,8 @@ pub fn run_spec_of_commands<A: Act>()
     ensures complete { Follow A.commands (IsComplete A.commands) }
 {}
 
-/// States what else follows for commands that request their files turn by turn: the statuses that
-/// files cause.
+/// States what follows about the statuses that files cause, for commands that request their files
+/// turn by turn.
 pub fn files_in_turns<A: Act>()
     requires lawful { AreLawful A.commands }
     requires turns { AreInTurns A.commands }
@@ -77,3 +74,16 @@ pub fn files_in_turns<A: Act>()
     ensures too_long { Follow A.commands (IfFileTooLong A.commands) }
     ensures exit { Follow A.commands (IfFiles A.commands) }
 {}
+
+/// Proves that the specification of a run follows from its account, and that the other properties
+/// of a run follow from the specification. The commands must be lawful, and must request their
+/// files turn by turn.
+pub fn lawful_commands_keep_run_spec<A: Act>()
+    requires lawful { AreLawful A.commands }
+    requires turns { AreInTurns A.commands }
+    ensures { KeepRunSpec A.commands }
+{
+    promised::<A>();
+    run_spec_of_commands::<A>();
+    files_in_turns::<A>();
+}

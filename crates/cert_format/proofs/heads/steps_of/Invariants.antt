@@ -2,7 +2,7 @@ use Rattle.std.proofs.Common.{length}
 use Rattle.cert_format.proofs.HeadLemmas.{AreSteps}
 use Rattle.cert_format.proofs.heads.steps_of.Given as goal
 
--- The steps in `path` have been parsed, and `rest` is the text of the others.
+-- The steps in `path` have been parsed, and `rest` is the text of the remaining steps.
 abbrev pub invariant-loop-rest : goal.invariant-loop-rest
 invariant-loop-rest l = AreSteps l.text l.path l.rest
 

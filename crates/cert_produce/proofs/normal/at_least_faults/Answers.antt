@@ -6,7 +6,7 @@ use Rattle.base_data.proofs.model.Options.{slice_get-Contains}
 use Rattle.cert_produce.specs.LeastFaults.{at_least}
 use Rattle.cert_produce.proofs.normal.at_least_faults.Goals as goal
 
--- The image of a list with one more pair.
+-- `map f` over the first `k + 1` elements of a list, split at the last of these elements.
 one_more :
     (f : ℕ × ℕ → ℕ × ℕ) (xs : List (ℕ × ℕ)) (k : ℕ) (x : ℕ × ℕ) → slice_get xs k ≡ Some x
     → map f (take (k + 1) xs) ≡ map f (take k xs) ++ f x ∷ []

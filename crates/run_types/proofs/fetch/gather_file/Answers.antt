@@ -4,7 +4,7 @@ use Rattle.cli_spec.specs.Outcome.{unasked}
 use Rattle.run_spec.proofs.runs.TakeLemmas.{taken, took_more}
 use Rattle.run_types.proofs.fetch.gather_file.Goals as goal
 
--- The last chunk was read, too, although it could not be stored.
+-- The bytes that were read include the last chunk, which could not be stored.
 pub returns-in_err-store-clause-taken : goal.returns-in_err-store-clause-taken
 returns-in_err-store-clause-taken g c =
     MatchResult-from_err _ _ _ c.from_residual.ensures.0 (λ _. (

@@ -3,7 +3,7 @@ use Rattle.std.specs.Prelude.{slice_get}
 use Rattle.text_roundtrip.specs.literal_texts.Readable.{IsConstantName}
 use Rattle.cmd_build.proofs.guess.encoded.are_constants.Given as goal
 
--- The earlier constants are readable.
+-- The constants before index `i` are readable.
 abbrev pub invariant-loop-i : goal.invariant-loop-i
 invariant-loop-i l =
     (l.i-end ≡ length l.names.constants)

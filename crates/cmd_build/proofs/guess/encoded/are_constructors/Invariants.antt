@@ -4,7 +4,7 @@ use Rattle.types_spec.specs.declared.types.names.ConstrNames.{ConstrNames}
 use Rattle.text_roundtrip.specs.literal_texts.Readable.{IsConstructorName}
 use Rattle.cmd_build.proofs.guess.encoded.are_constructors.Given as goal
 
--- The earlier constructors are readable.
+-- The constructors before index `tag` are readable.
 abbrev pub invariant-loop-tag : goal.invariant-loop-tag
 invariant-loop-tag l =
     (l.tag-end ≡ length l.names.constructors)

@@ -32,5 +32,5 @@ returns-in-Err-clause-account g c = λ words asks files.
     type_account words files c.args.number c.args.count c.args.type_text.now asks
     c.in-Err.exit c.in-Err.ensures
     (g.S.Source.state c.args.input.now) (g.K.Sink.state c.args.out.now)
-    (change (g.E.Sink.state c.args.err.now) (g.E.Sink.state c.report-in-Err.new.err))
-    c.report-in-Err.result c.report-in-Err.ensures
+    (change (g.E.Sink.state c.args.err.now) (g.E.Sink.state c.report_exit-in-Err.new.err))
+    c.report_exit-in-Err.result c.report_exit-in-Err.ensures

@@ -9,13 +9,13 @@ use Rattle.cmd_build.specs.command.Steps.{HasTexts}
 use Rattle.cmd_build.proofs.command.TextsLemmas.{lines_few, texts_few, line_taken, line_memory, line_aborts, takes_error}
 use Rattle.cmd_build.proofs.command.build_state.BuildState.take_line.Goals as goal
 
-pub returns-in_err-keep-clause-takes : goal.returns-in_err-keep-clause-takes
-returns-in_err-keep-clause-takes g c =
+pub returns-in_err-write-clause-takes : goal.returns-in_err-write-clause-takes
+returns-in_err-write-clause-takes g c =
     let s = c.args.self.now in
     let out = change (g.K.Sink.state c.args.out.now) (g.K.Sink.state c.args.out.now) in
     takes_error (type_over s.requested.now)
     (HasTexts s.requested.now s.held.items s.lines s.texts)
-    (HasTexts s.requested.now c.keep.new.held.items s.lines s.texts) c.args.end.now out
+    (HasTexts s.requested.now c.write.new.text.items s.lines s.texts) c.args.end.now out
     (aborts.Exit out_of_memory) c.from_residual.result c.from_residual.ensures.1
     (λ more bytes output h. line_memory s.requested.now s.held.items s.lines s.texts bytes output h
     c.args.end.now c.requires.unbroken more out out_of_memory refl
@@ -42,11 +42,11 @@ returns-in_err-self-clause-takes g c =
     let error = c.in_err-self.field-0.0 in
     takes_error (type_over s.requested.now)
     (HasTexts s.requested.now s.held.items s.lines s.texts)
-    (HasTexts s.requested.now c.keep.new.held.items s.lines s.texts) c.args.end.now out error
+    (HasTexts s.requested.now c.write.new.text.items s.lines s.texts) c.args.end.now out error
     c.from_residual-in_err-self.result c.from_residual-in_err-self.ensures.1
     (λ more bytes output h. line_aborts s.requested.now s.held.items s.lines s.texts bytes output h
     c.args.end.now c.requires.unbroken more c.as_slice-line.result.now (s.lines + 1) out error
-    (c.as_slice-line.ensures.value ∙ c.in_ok-keep.ensures) refl c.in_err-self.ensures)
+    (c.as_slice-line.ensures.value ∙ c.in_ok-write.ensures) refl c.in_err-self.ensures)
 
 pub overflow_add-self-2 : goal.overflow_add-self-2
 overflow_add-self-2 g c =
@@ -59,7 +59,7 @@ pub returns-clause-takes : goal.returns-clause-takes
 returns-clause-takes g c = λ bytes output h.
     let s = c.args.self.now in
     let e = c.in_ok-self.ensures in
-    let line = c.as_slice-line.ensures.value ∙ c.in_ok-keep.ensures in (
+    let line = c.as_slice-line.ensures.value ∙ c.in_ok-write.ensures in (
       e.2,
       subst (λ held. HasTexts s.requested.now held (s.lines + 1) c.in_ok-self.field-0
           (bytes ++ (c.args.end.now ++ 10 ∷ [])) (output ++ e.2 ∷ []))

@@ -22,27 +22,27 @@ returns-in_err-take_line-in-Some-clause-feeds g c = λ reads.
     let s = c.args.self.now in
     let t = c.take_line.new.self in
     let n = c.in-Some.n in
-    let at = feed_at c.args.buffered.now n c.in-Some.ensures.0.high c.in-Some.ensures.0.before
+    let at = feed_at c.args.chunk.now n c.in-Some.ensures.0.high c.in-Some.ensures.0.before
     c.in-Some.ensures.1 in
     let out = change (g.K.Sink.state c.args.out.now) (g.K.Sink.state c.take_line.new.out) in
     let error = c.in_err-take_line-in-Some.field-0.0 in
     feeds_error (building declared_types declared_texts) (type_over s.requested.now)
     (HasTexts s.requested.now s.held.items s.lines s.texts)
-    (HasTexts t.requested.now t.held.items t.lines t.texts) c.args.buffered.now out error
+    (HasTexts t.requested.now t.held.items t.lines t.texts) c.args.chunk.now out error
     c.from_residual.result c.from_residual.ensures.1
     (λ bytes output h. subst (λ b. AbortsIn (building declared_types declared_texts)
     (type_over s.requested.now) bytes b output out error) (sym at.all)
-    (c.in_err-take_line-in-Some.ensures.takes (drop (n + 1) c.args.buffered.now) bytes output h))
+    (c.in_err-take_line-in-Some.ensures.takes (drop (n + 1) c.args.chunk.now) bytes output h))
 
-pub returns-in_err-keep-in-None-clause-feeds : goal.returns-in_err-keep-in-None-clause-feeds
-returns-in_err-keep-in-None-clause-feeds g c = λ reads.
+pub returns-in_err-write-in-None-clause-feeds : goal.returns-in_err-write-in-None-clause-feeds
+returns-in_err-write-in-None-clause-feeds g c = λ reads.
     let s = c.args.self.now in
     let out = change (g.K.Sink.state c.args.out.now) (g.K.Sink.state c.args.out.now) in
     feeds_error (building declared_types declared_texts) (type_over s.requested.now)
     (HasTexts s.requested.now s.held.items s.lines s.texts)
-    (HasTexts s.requested.now c.keep.new.held.items s.lines s.texts) c.args.buffered.now out
-    (aborts.Exit out_of_memory) c.from_residual-in_err-keep-in-None.result
-    c.from_residual-in_err-keep-in-None.ensures.1
+    (HasTexts s.requested.now c.write.new.text.items s.lines s.texts) c.args.chunk.now out
+    (aborts.Exit out_of_memory) c.from_residual-in_err-write-in-None.result
+    c.from_residual-in_err-write-in-None.ensures.1
     (λ bytes output h. (
       texts_hold s.requested.now s.held.items s.lines s.texts bytes output h,
       inr refl,
@@ -54,7 +54,7 @@ pub returns-in_ok-take_line-in-Some-clause-feeds :
 returns-in_ok-take_line-in-Some-clause-feeds g c = λ reads.
     let t = c.take_line.new.self in
     let n = c.in-Some.n in
-    let at = feed_at c.args.buffered.now n c.in-Some.ensures.0.high c.in-Some.ensures.0.before
+    let at = feed_at c.args.chunk.now n c.in-Some.ensures.0.high c.in-Some.ensures.0.before
     c.in-Some.ensures.1 in
     let out = change (g.K.Sink.state c.args.out.now) (g.K.Sink.state c.take_line.new.out) in (
       omega arith,
@@ -69,19 +69,19 @@ returns-in_ok-take_line-in-Some-clause-feeds g c = λ reads.
           ),
     )
 
-pub returns-in_ok-keep-in-None-clause-feeds : goal.returns-in_ok-keep-in-None-clause-feeds
-returns-in_ok-keep-in-None-clause-feeds g c = λ reads.
+pub returns-in_ok-write-in-None-clause-feeds : goal.returns-in_ok-write-in-None-clause-feeds
+returns-in_ok-write-in-None-clause-feeds g c = λ reads.
     let s = c.args.self.now in (
       c.requires.some,
       omega arith,
       λ bytes output h. (
         [],
         omega arith,
-        subst (λ b. HasTexts s.requested.now c.keep.new.held.items s.lines s.texts (bytes ++ b)
-            (output ++ [])) (sym (take_whole c.args.buffered.now))
+        subst (λ b. HasTexts s.requested.now c.write.new.text.items s.lines s.texts (bytes ++ b)
+            (output ++ [])) (sym (take_whole c.args.chunk.now))
             (texts_go_on s.requested.now s.held.items s.lines s.texts bytes output h
-            c.args.buffered.now c.keep.new.held.items
-            (unbroken_by c.args.buffered.now c.in-None.ensures) c.in_ok-keep-in-None.ensures),
+            c.args.chunk.now c.write.new.text.items
+            (unbroken_by c.args.chunk.now c.in-None.ensures) c.in_ok-write-in-None.ensures),
         writes_nothing (g.K.Sink.state c.args.out.now),
       ),
     )

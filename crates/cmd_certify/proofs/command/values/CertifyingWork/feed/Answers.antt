@@ -18,7 +18,7 @@ write_value-requires g c =
     let q = c.requires.has in
     let known = has_values w.requested.now w.limit in
     let f = c.in-Ok.ensures.feeds w.limit q.2.prefix q.2.leads in (
-      q.0 ++ take c.in-Ok.fed.taken c.args.buffered.now,
+      q.0 ++ take c.in-Ok.fed.taken c.args.chunk.now,
       q.1,
       whole_read known q.2 f c.if-fed.true,
       few_read known q.2 f q.3,
@@ -31,14 +31,14 @@ returns-in_err-write_value-in-Ok-clause-feeds g c = λ reads.
     let out = change (g.K.Sink.state c.args.out.now) (g.K.Sink.state c.write_value.new.out) in
     feeds_error on_certified (certified w.requested.now w.limit)
     (HasRead w.requested.now w.least_faults.now w.limit w.reader w.count w.ok)
-    (HasRead n.requested.now n.least_faults.now n.limit n.reader n.count n.ok) c.args.buffered.now out
+    (HasRead n.requested.now n.least_faults.now n.limit n.reader n.count n.ok) c.args.chunk.now out
     c.in_err-write_value-in-Ok.field-0.0 c.from_residual.result c.from_residual.ensures.1
     (λ taken output h.
     let known = has_values w.requested.now w.limit in
     let f = c.in-Ok.ensures.feeds w.limit h.prefix h.leads in
-    next_aborts known h c.args.buffered.now (λ exit. exit ≡ out_of_memory) (λ exit memory. inr memory)
+    next_aborts known h c.args.chunk.now (λ exit. exit ≡ out_of_memory) (λ exit memory. inr memory)
     c.in-Ok.fed.taken out n.reader n.count n.ok c.in_err-write_value-in-Ok.field-0.0
-    (c.in_err-write_value-in-Ok.ensures.writes (taken ++ take c.in-Ok.fed.taken c.args.buffered.now) output
+    (c.in_err-write_value-in-Ok.ensures.writes (taken ++ take c.in-Ok.fed.taken c.args.chunk.now) output
     (whole_read known h f c.if-fed.true)))
 
 pub returns-after-fed-clause-feeds : goal.returns-after-fed-clause-feeds
@@ -58,8 +58,8 @@ returns-after-fed-clause-feeds g c = λ reads.
           elim c.if-fed.branch [
             | then-fed+in_ok-write_value-in-Ok x ↦
                 let whole = whole_read known h f x.if-fed.true in
-                let write = x.in_ok-write_value-in-Ok.ensures.writes (taken ++ take c.in-Ok.fed.taken c.args.buffered.now) output whole in
-                (write.0 ∷ [], omega arith, rw (x.self-is) (has_same w.requested.now x.write_value.new.self.requested.now w.least_faults.now x.write_value.new.self.least_faults.now w.limit x.write_value.new.self.limit x.write_value.new.self.reader x.write_value.new.self.count x.write_value.new.self.ok (taken ++ take c.in-Ok.fed.taken c.args.buffered.now) (output ++ write.0 ∷ []) (sym (ap (λ (q : Bor Prepared). q.now) x.in_ok-write_value-in-Ok.ensures.requested)) (sym (ap (λ (q : Bor (List ℕ)). q.now) x.in_ok-write_value-in-Ok.ensures.least_faults)) (sym x.in_ok-write_value-in-Ok.ensures.limit) write.1), rw (x.out-is, texts_of-one write.0) write.2)
+                let write = x.in_ok-write_value-in-Ok.ensures.writes (taken ++ take c.in-Ok.fed.taken c.args.chunk.now) output whole in
+                (write.0 ∷ [], omega arith, rw (x.self-is) (has_same w.requested.now x.write_value.new.self.requested.now w.least_faults.now x.write_value.new.self.least_faults.now w.limit x.write_value.new.self.limit x.write_value.new.self.reader x.write_value.new.self.count x.write_value.new.self.ok (taken ++ take c.in-Ok.fed.taken c.args.chunk.now) (output ++ write.0 ∷ []) (sym (ap (λ (q : Bor Prepared). q.now) x.in_ok-write_value-in-Ok.ensures.requested)) (sym (ap (λ (q : Bor (List ℕ)). q.now) x.in_ok-write_value-in-Ok.ensures.least_faults)) (sym x.in_ok-write_value-in-Ok.ensures.limit) write.1), rw (x.out-is, texts_of-one write.0) write.2)
             | else-fed x ↦ (
               [],
               omega arith,
@@ -72,6 +72,6 @@ returns-after-fed-clause-feeds g c = λ reads.
 pub returns-in-Err-clause-feeds : goal.returns-in-Err-clause-feeds
 returns-in-Err-clause-feeds g c = λ reads taken output h.
     let w = c.args.self.now in
-    inl (refused_aborts (has_values w.requested.now w.limit) h c.args.buffered.now c.in-Err.refusal
+    inl (refused_aborts (has_values w.requested.now w.limit) h c.args.chunk.now c.in-Err.refusal
     c.refused_value.result (c.in-Err.ensures.refuses w.limit h.prefix h.leads)
     c.refused_value.ensures (g.K.Sink.state c.args.out.now))

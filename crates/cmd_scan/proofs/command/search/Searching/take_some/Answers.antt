@@ -1,8 +1,8 @@
-use Rattle.std.proofs.Common.{◌∙◌, sym, subst, ap, length, arith}
+use Rattle.std.proofs.Common.{◌++◌, ◌∙◌, take, sym, subst, ap, length, arith}
 use Rattle.std.proofs.lemmas.List.{length-take-le}
 use Rattle.marshal_spec.specs.format.Prefix.{IsPrefix}
 use Rattle.marshal_read.specs.Reader.{Leads}
-use Rattle.cmd_scan.specs.command.Last.{TakesBytes}
+use Rattle.cmd_scan.specs.command.Last.{TakesBytes, HasValue}
 use Rattle.cmd_scan.proofs.command.SearchLemmas.{some_taken}
 use Rattle.cmd_scan.proofs.command.search.Searching.take_some.Goals as goal
 
@@ -31,4 +31,11 @@ returns-clause-takes g c = λ bytes output h.
     c.in_ok-taken.taken
     (subst
     (λ b. TakesBytes w.limit b c.next_chunk-chunk.result.now c.read_some.new.reader c.in_ok-taken.taken)
-    c.as_slice-held.ensures.value c.in_ok-taken.ensures) c.keep.new.held.items c.in_ok-keep.ensures
+    c.as_slice-held.ensures.value c.in_ok-taken.ensures.some) c.write.new.text.items c.in_ok-write.ensures
+
+pub returns-clause-whole : goal.returns-clause-whole
+returns-clause-whole g c =
+    let w = c.args.self.now in
+    subst (λ b. HasValue w.limit b c.read_some.new.reader c.in_ok-taken.taken)
+    (ap (λ h. h ++ take c.in_ok-taken.taken.bytes c.next_chunk-chunk.result.now) c.as_slice-held.ensures.value
+    ∙ sym c.in_ok-write.ensures) c.in_ok-taken.ensures.whole

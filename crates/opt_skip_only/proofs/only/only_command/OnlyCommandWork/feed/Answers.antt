@@ -14,10 +14,10 @@ returns-in_default-clause-feeds g c = λ reads.
     let out = change (g.K.Sink.state c.args.out.now) (g.K.Sink.state c.feed.new.out) in
     subst (λ picked. Feeds (only_command g.P.PicksOne.picked_by g.W.Work.commands)
     (picked, g.W.Work.act w.work) (HasPicked picked (g.W.Work.has w.work))
-    (HasPicked picked (g.W.Work.has c.feed.new.self)) c.args.buffered.now out c.feed.result)
+    (HasPicked picked (g.W.Work.has c.feed.new.self)) c.args.chunk.now out c.feed.result)
     (sym c.in_default.is)
     (fed_each g.P.PicksOne.picked_by g.W.Work.commands (g.W.Work.act w.work)
-    (g.W.Work.has w.work) (g.W.Work.has c.feed.new.self) c.args.buffered.now out c.feed.result
+    (g.W.Work.has w.work) (g.W.Work.has c.feed.new.self) c.args.chunk.now out c.feed.result
     (c.feed.ensures.feeds reads))
 
 pub returns-then-number-count-clause-feeds : goal.returns-then-number-count-clause-feeds
@@ -25,7 +25,7 @@ returns-then-number-count-clause-feeds g c = λ reads.
     let w = c.args.self.now in
     let out = change (g.K.Sink.state c.args.out.now) (g.K.Sink.state c.feed_last.new.out) in
     fed_picked g.P.PicksOne.picked_by g.W.Work.commands (g.W.Work.act w.work) w.picked c.in-Some.number
-    c.in-Some.is (g.W.Work.has w.work) (g.W.Work.has c.feed_last.new.work) c.args.buffered.now out
+    c.in-Some.is (g.W.Work.has w.work) (g.W.Work.has c.feed_last.new.work) c.args.chunk.now out
     c.feed_last.result (c.feed_last.ensures.feeds reads)
 
 pub returns-in-Ok-clause-feeds : goal.returns-in-Ok-clause-feeds
@@ -34,10 +34,10 @@ returns-in-Ok-clause-feeds g c = λ reads.
     let act = g.W.Work.act w.work in
     let out = g.K.Sink.state c.args.out.now in
     fed_picked g.P.PicksOne.picked_by g.W.Work.commands act w.picked c.in-Some.number c.in-Some.is
-    (g.W.Work.has w.work) (g.W.Work.has c.feed-2.new.self) c.args.buffered.now (change out out)
+    (g.W.Work.has w.work) (g.W.Work.has c.feed-2.new.self) c.args.chunk.now (change out out)
     (Ok c.in-Ok.taken)
     (fed_before g.P.PicksOne.picked_by g.W.Work.commands act c.in-Some.number (g.W.Work.has w.work)
-    c.never_finishes.ensures (g.W.Work.has c.feed-2.new.self) c.args.buffered.now out
+    c.never_finishes.ensures (g.W.Work.has c.feed-2.new.self) c.args.chunk.now out
     (λ bytes known there.
     let n = c.count.ensures bytes known there in
     let before = c.if-number-count.false in
@@ -51,10 +51,10 @@ returns-in-Err-Exit-clause-feeds g c = λ reads.
     let out = g.K.Sink.state c.args.out.now in
     let fed = c.in-Err-Exit.ensures.feeds reads in
     fed_picked g.P.PicksOne.picked_by g.W.Work.commands act w.picked c.in-Some.number c.in-Some.is
-    (g.W.Work.has w.work) (g.W.Work.has c.feed-2.new.self) c.args.buffered.now (change out out)
+    (g.W.Work.has w.work) (g.W.Work.has c.feed-2.new.self) c.args.chunk.now (change out out)
     (Err (aborts.Exit c.in-Err-Exit.exit))
     (fed_before g.P.PicksOne.picked_by g.W.Work.commands act c.in-Some.number (g.W.Work.has w.work)
-    c.never_finishes.ensures (g.W.Work.has c.feed-2.new.self) c.args.buffered.now out
+    c.never_finishes.ensures (g.W.Work.has c.feed-2.new.self) c.args.chunk.now out
     (λ bytes known there.
     let n = c.count.ensures bytes known there in
     let before = c.if-number-count.false in
@@ -68,14 +68,14 @@ returns-in-Err-WriteFault-clause-feeds g c = λ reads.
     let out = g.K.Sink.state c.args.out.now in
     let fed = c.in-Err-WriteFault.ensures.feeds reads in
     fed_picked g.P.PicksOne.picked_by g.W.Work.commands act w.picked c.in-Some.number c.in-Some.is
-    (g.W.Work.has w.work) (g.W.Work.has c.feed-2.new.self) c.args.buffered.now (change out out)
+    (g.W.Work.has w.work) (g.W.Work.has c.feed-2.new.self) c.args.chunk.now (change out out)
     (Err (aborts.Exit out_of_memory))
     (fed_before g.P.PicksOne.picked_by g.W.Work.commands act c.in-Some.number (g.W.Work.has w.work)
-    c.never_finishes.ensures (g.W.Work.has c.feed-2.new.self) c.args.buffered.now out
+    c.never_finishes.ensures (g.W.Work.has c.feed-2.new.self) c.args.chunk.now out
     (λ bytes known there.
     let n = c.count.ensures bytes known there in
     let before = c.if-number-count.false in
     omega (arith, n, before))
     (Err (aborts.Exit out_of_memory))
     (feeds_faulted g.W.Work.commands act (g.W.Work.has w.work) (g.W.Work.has c.feed-2.new.self)
-    c.args.buffered.now (rw c.in-Err-WriteFault.field-0-is at fed)))
+    c.args.chunk.now (rw c.in-Err-WriteFault.field-0-is at fed)))
