@@ -390,6 +390,9 @@ SCRIPTS = [
     (DEEP, DEEP_TYPE, "0 set .1.1 = 5", value((0, [3, (0, [Double(1.5), 5])]))),
     (DEEP, DEEP_TYPE, "0 set .1 = (2., 6)", value((0, [3, (0, [Double(2.0), 6])]))),
     (DEEP, DEEP_TYPE, "0 set . 01 . 00 = 0.1e1", value((0, [3, (0, [Double(1.0), 4])]))),
+    (DEEP, DEEP_TYPE, "0 set . 1.0 = -0.25", value((0, [3, (0, [Double(-0.25), 4])]))),
+    (DEEP, DEEP_TYPE, "0 set .(*c*)1.0 = -0.25", value((0, [3, (0, [Double(-0.25), 4])]))),
+    (DEEP, DEEP_TYPE, "0 set . (* 1.5 *)\t1.(**)0 = (* . *) 0.1e1", value((0, [3, (0, [Double(1.0), 4])]))),
     (BOTH, "float * float", "0 link .0 = .1", value((0, [Double(2.5), b"\x04\x01"]))),
     (BOTH + BOTH, "float * float", "1 graft .0 = 0 .1", BOTH + value((0, [Double(2.5), Double(2.5)]))),
     (value(Doubles([1.0, 2.0])), "float array", "0 set . = [|0.5; -1e300; $7ff8000000000001|]",
@@ -423,6 +426,9 @@ FAULTS = [
     (BOTH + BOTH, "float * float", "1 graft .0 = ¦0.1", "Syntax", "", b""),
     (BOTH, "float * float", "0 link .0 = ¦1.5", "Syntax", "", b""),
     (BOTH, "float * float", "0 set .0 ¦1.5 = 1.5", "Syntax", "", b""),
+    (BOTH, "float * float", "0 set . 0 ¦1.5 = 1.5", "Syntax", "", b""),
+    (BOTH, "float * float", "0 set . 1¦e5 = 1.5", "Syntax", "", b""),
+    (BOTH, "float * float", "0 set .(*c*)¦-1.0 = 1.5", "Syntax", "", b""),
     (BOTH, "float * float", "0 set .0 = 1.5\n0 ¦foo 1.5", "Syntax", "", b""),
 ]
 

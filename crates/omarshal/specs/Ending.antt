@@ -7,8 +7,8 @@ use Rattle.cli_spec.specs.declared.exit.Exit.{Exit}
 use Rattle.base_io.specs.Sink.{Writes, WritesPart}
 use Rattle.base_io.specs.State.{ByteState, Change}
 
--- The error line is written and its status returned. If the line could not be written completely,
--- the status is `WriteFault`.
+-- If the error line of the exit reason is written completely, `status` is the status of the exit
+-- reason. If not, `status` is `WriteFault`.
 abbrev pub Outputs : Exit → Change ByteState → Status → Type 0
 Outputs exit err status =
     (Writes err (exit_line exit) × (status ≡ status_of exit))

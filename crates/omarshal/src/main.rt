@@ -1,18 +1,18 @@
 //! The program: makes the real input, files and outputs, and calls `run` with the arguments.
 //!
-//! It owns `main` and the few functions around it. It passes the arguments after the program's
-//! name to `run` of `session`, and ends with the status that `run` returns. If standard input is
-//! closed, each read of it fails (`MaybeClosed`).
+//! The crate owns `main` and the few functions that `main` uses. `main` passes the arguments after
+//! the program's name to `run` of `session`, and ends with the status that `run` returns. If
+//! standard input is closed, each read of standard input fails (`MaybeClosed`).
 //!
-//! Promises: `arguments_after` returns the arguments in their order, without the first.
-//! `exit_code` returns the exit code whose number is the number of the status. `exit` writes the
-//! line of a run whose arguments could not be read and returns its status, or the status for a
-//! line that could not be written whole.
+//! Promises: `arguments_after` returns the arguments in their order, without the first. `exit_code`
+//! returns the exit code whose number is the number of the status. If the arguments could not be
+//! read, `exit` writes the error line for the failure and returns the status of that line. If
+//! `exit` cannot write the whole line, `exit` returns `WriteFault`.
 //!
 //! Leaves out: everything about commands (`session`) and the implementations of input, files and
-//! outputs (`base_io`). `main`, `read_arguments` and `standard_input` have no contract: that
-//! `main` hands the arguments and the real environment to `run` and ends with its status is read
-//! in the code and trusted.
+//! outputs (`base_io`). `main`, `read_arguments` and `standard_input` have no contract. That `main`
+//! passes the arguments and the real environment to `run`, and ends with the status of `run`, is
+//! read in the code and trusted.
 #![tactic(auto)]
 
 ghost use Rattle.std.specs.Prelude.{◌≡◌, ◌≢◌, drop, IfOk};
@@ -36,7 +36,9 @@ use std::io::{ErrorKind, Lock, StdinLock};
 use std::os::fd::AsFd;
 use std::process::ExitCode;
 
-/// Writes the error line of a run whose arguments could not be read, and returns its status.
+/// Writes the error line of a run whose arguments could not be read, and returns the status of that
+/// line. If memory ran out, the line is that of `out_of_memory`, and otherwise that of `usage`. If
+/// the line cannot be written completely, returns `WriteFault`.
 fn exit<K: Sink>(err: &mut K, kind: ErrorKind) -> Status
     ensures memory { kind ≡ kinds.OutOfMemory
         → Outputs out_of_memory (change (K.state err.old) (K.state err.new)) result }
@@ -72,8 +74,9 @@ fn read_arguments(rt: &HostRuntime) -> Result<Vec<String>, ErrorKind> {
     }
 }
 
-/// Returns standard input. It counts as closed if its descriptor cannot be duplicated. A file that
-/// is opened later may get the closed descriptor, and must not be read as standard input.
+/// Returns standard input. If the descriptor of standard input cannot be duplicated, standard input
+/// counts as closed. A file that is opened later may get the closed descriptor, and must not be
+/// read as standard input.
 fn standard_input(rt: &HostRuntime) -> MaybeClosed<StdinLock> {
     let stdin = rt.stdin();
     match stdin.as_fd().try_clone_to_owned() {

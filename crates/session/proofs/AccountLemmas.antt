@@ -44,22 +44,22 @@ use Rattle.run_loop.proofs.work.ExitLemmas.{nothing_found, none_fetched as nothi
 
 -- ---- the values
 
--- The operation is performed on the values.
+-- The command on values performs the operation `value_task` on the values of the input.
 abbrev DoesValueTask : ValueTask → Passed → Option ℕ → Change ByteState → Change ByteState → Change ByteState → Status → Type 0
 DoesValueTask value_task over only = HasAccount on_values_after (over, (only, task_of value_task))
 
 -- ---- the arguments
 
--- The results of the first and the second turn.
+-- The result of fetching the first file in turn 0, and of fetching the second file in a later turn.
 abbrev two_found : Found → Found → ℕ → List ℕ → Found
 two_found first second zero name = first
 two_found first second (suc turn) name = second
 
--- No file was fetched.
+-- If the state of the files is unchanged, then no file was fetched.
 none_fetched : (arguments : List (List ℕ)) (files : FilesState) → FetchesFor on_values_after arguments (change files files) nothing_found
 none_fetched arguments = nothing_fetched on_values_after arguments 2 values_in_turns
 
--- PATH is not a path, or memory ran out.
+-- If PATH is not a path, or memory ran out, then the run has an `Account`.
 pub path_account : (arguments : List (List ℕ)) (name type text : List ℕ) (style : Style) (lines : Bool) (reading : ReadOptions) → Asks arguments (get name type text style lines reading)
     → (fault : PathFault) → UnlessMemory (λ f. IsAnswer text (Err f)) fault → (exit : Exit) → IsPathExit fault exit
     → (input out : ByteState) (files : FilesState) (err : Change ByteState) (status : Status)
@@ -99,20 +99,20 @@ module _ (arguments : List (List ℕ)) (name : List ℕ) (type : AskedType) (que
   gives_err exit (inl reads) = inl (prepared_err _ reads)
   gives_err exit (inr memory) = inr memory
 
-  -- There is no type.
+  -- If FILE and TYPE give no type, then the run has an `Account`.
   pub type_account : (exit : Exit) → GivesType name type found (Err exit) → (input out : ByteState) (err : Change ByteState) (status : Status)
       → Reports exit err status → Account on_values_after arguments (call (change input input) files (change out out) err status)
   type_account exit gives input out err status r =
       exit_account on_values_after arguments all_found input out files fetches err status exit (gives_err exit gives) r
 
-  -- The report on the values at the type is written.
+  -- If the report on the values at the type is written, then the run has an `Account`.
   pub known_account : (t : Bor Prepared) → GivesType name type found (Ok t.now) → (input out err : Change ByteState) (status : Status)
       → DoesValueTask (value_tasks.Print (printings.Report t query) reading.limit) (passed_in reading) reading.only input out err status → Account on_values_after arguments (call input files out err status)
   known_account t gives input out err status does = does arguments all_found files fetches (prepared_ok t gives.0)
 
 -- ---- SCRIPT
 
--- FILE or TYPE cannot be read.
+-- Lemmas on a run of `edit` in which FILE or TYPE cannot be read.
 module _ (arguments : List (List ℕ)) (file type script : List ℕ) (compat lines decimal : Bool) (reading : ReadOptions) (asks : Asks arguments (edit file type script compat lines decimal reading)) (files : Change FilesState) (found : Found)
     (fetched : Fetched files file found) where
   abbrev file_found : Fetches
@@ -136,7 +136,7 @@ module _ (arguments : List (List ℕ)) (file type script : List ℕ) (compat lin
       → Reports exit err status → Account on_values_after arguments (call (change input input) files (change out out) err status)
   file_account exit gives input out err status r = exit_account on_values_after arguments file_found input out files file_fetches err status exit (file_gives exit gives) r
 
--- FILE and TYPE are read, and SCRIPT is next.
+-- Lemmas on a run of `edit` in which FILE and TYPE are read, and SCRIPT is next.
 module _ (arguments : List (List ℕ)) (r : Bor Prepared) (script : List ℕ) (compat : Bool) (reading : ReadOptions) (a b c : FilesState) (asks : AsksToEdit arguments r.now script compat reading (change a b))
     (found : Found) (fetched : Fetched (change b c) script found) where
   abbrev both_found : Fetches
@@ -165,7 +165,7 @@ module _ (arguments : List (List ℕ)) (r : Bor Prepared) (script : List ℕ) (c
       (inl (asks.file, wants_file declared_types arguments both_found request asks.asks asks.file edit_wanted, asks.fetched))
       (inl (script, wants_script declared_types arguments both_found request asks.asks script script_wanted, fetched))))
 
-  -- Positions in SCRIPT are reported in the same form as those in FILE and TYPE, and decimals are
+  -- Positions in SCRIPT are reported in the form of positions in FILE and TYPE, and decimals are
   -- read as requested.
   as_asked : (result : Result (List ScriptLine) Exit) → ReadsScriptOf declared_types r.now.lines r.now.decimal (λ name. found) script result
       → ReadsScriptOf declared_types asks.lines asks.decimal (λ name. found) script result
@@ -185,7 +185,7 @@ module _ (arguments : List (List ℕ)) (r : Bor Prepared) (script : List ℕ) (c
   script_account exit gives input out err status reports =
       exit_account on_values_after arguments both_found input out (change a c) both_fetched err status exit (script_gives exit gives) reports
 
-  -- The values are edited.
+  -- If the values are edited, then the run has an `Account`.
   pub edits_account : (s : Bor Script) → GivesScript r.now.lines r.now.decimal script found (Ok s.now) → (input out err : Change ByteState) (status : Status)
       → DoesValueTask (value_tasks.Edit (record { requested = r; script = s; compat = compat }) reading.limit) (record { bytes = reading.skip; copied = true }) reading.only input out err status → Account on_values_after arguments (call input (change a c) out err status)
   edits_account s gives input out err status does =
@@ -195,17 +195,17 @@ module _ (arguments : List (List ℕ)) (r : Bor Prepared) (script : List ℕ) (c
       (Ok request, asks.asks, (refl, (refl, (Ok (task_of value_task).work, (Ok (type_over r.now), asks.gives.0, (Ok s.now.lines, read, refl)), refl))))
 
 module _ (arguments : List (List ℕ)) (reading : ReadOptions) (files : FilesState) (input out err : Change ByteState) (status : Status) where
-  -- The untyped dumps of the values are written.
+  -- If the untyped dumps of the values are written, then the run has an `Account`.
   pub dump_account : Asks arguments (dump reading) → DoesValueTask (value_tasks.Print printings.Dump reading.limit) (passed_in reading) reading.only input out err status → Account on_values_after arguments (call input (change files files) out err status)
   dump_account asks does = does arguments nothing_found (change files files) (none_fetched arguments files) (Ok (dump reading), asks, (refl, (refl, (Ok dumps, refl, refl))))
 
-  -- Two values are compared.
+  -- If two values are compared, then the run has an `Account`.
   pub compare_account : Asks arguments (compare reading) → DoesValueTask (value_tasks.Compare reading.limit) (passed_in reading) reading.only input out err status → Account on_values_after arguments (call input (change files files) out err status)
   compare_account asks does = does arguments nothing_found (change files files) (none_fetched arguments files) (Ok (compare reading), asks, (refl, (refl, (Ok compares, refl, refl))))
 
 -- ---- the lines
 
--- The lines that a file gives copy from values before the edited ones.
+-- Each line that a script file gives copies only from values before the edited value.
 pub given_in_time : ((text : List ℕ) (lines : List ScriptLine) → AreEdits 1 text (Ok lines) → AreInTime lines) → (lines decimal : Bool) (name : List ℕ) (found : Found) (script : Script) → GivesScript lines decimal name found (Ok script) → AreInTime script.lines
 given_in_time law lines decimal name found script (Ok text, read, is) = script_in_time law lines decimal text script.lines is
 given_in_time law lines decimal name found script (Err exit, read, is) = absurd (cc is)

@@ -33,7 +33,7 @@ use Rattle.run_spec.specs.value_commands.Tasks.{items_of, commands}
 use Rattle.run_spec.proofs.value_commands.GivenLemmas.{type_given}
 use Rattle.run_spec.proofs.value_commands.FirstLemmas.{outputs_first, goes_on}
 
--- The output for a value.
+-- The output for a canonical value that no line edits.
 abbrev pub output_of : Tree → Output
 output_of tree = record { text = canon tree; ok = true }
 
@@ -48,7 +48,7 @@ pub all_are_ok : (trees : List Tree) → all_ok (map output_of trees ++ nothing_
 all_are_ok [] = refl
 all_are_ok (tree ∷ trees) = all_are_ok trees
 
--- The bytes of the value.
+-- If `compat` is false or a 32-bit reader can hold a value, then the value's bytes are canonical.
 bytes_are : (compat : Bool) (tree : Tree) (large : Option TooLargeFor32) → (compat ≡ true → large ≡ None) → Ok (canon tree) ≡ bytes_for compat tree large
 bytes_are compat tree None fits = refl
 bytes_are false tree (Some large) fits = refl
@@ -62,7 +62,7 @@ module _ (t : TypeOver) (compat : Bool) (limit : ℕ) where
   abbrev its_task : Task TypeOver ScriptLine
   its_task = task (edits t [] compat) limit
 
-  -- If no byte follows, the run does not end with an error.
+  -- If no byte follows the values, then the run does not end with an error.
   none_at_end : (trees : List Tree) (exit : Exit)
       → ExitsAt declared_types (edits t [] compat) limit trees [] exit → ⊥
   none_at_end trees exit at =
@@ -128,8 +128,8 @@ module _ (once : HaveOneOutcome (commands declared_types)) (arguments : List (Li
         (reply is.type_is is.compat is.limit (type_given declared_types (fetches_of (contents_of files)) is.file (asked_with is.type is.lines is.decimal) is.type_is is.typed) is.trees is.canonical (subst AreBytes is.bytes are_bytes)),
   )
 
-  -- If the arguments request edits, then the specification of a run by all commands implies the one
-  -- by the commands on values.
+  -- If the specification of a run by all commands holds, then an empty SCRIPT leaves canonical
+  -- input unchanged.
   pub leaves_canonical : IsPart on_values_after IsOfValues → RunSpec all_commands arguments call
       → LeavesCanonical arguments call
   leaves_canonical part all input files honest some is =

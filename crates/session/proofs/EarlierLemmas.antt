@@ -1,4 +1,4 @@
--- The kept earlier values, as the lines make one more.
+-- The kept earlier values, as one more value is edited by its lines.
 use Rattle.std.proofs.Common.{◌≡◌, ◌∙◌, ◌⊎◌, inl, inr, ⊎_elim, ℕ, zero, suc, ◌+◌, ◌<◌, ◌≤◌, Bool, true, false, ltb, eqb, List, [], ◌∷◌, ◌++◌, length, map, set, get_or, Option, None, Some, Result, Ok, Err, is_some, refl, sym, ap, subst, length-append, eqb-true, eq-eqb, ne_eqb, lt-ltb, le-ltb, arith}
 use Rattle.std.proofs.lemmas.Bool.{ltb-true, ltb-false, eqb-false, cases_lt}
 use Rattle.std.proofs.lemmas.List.{get_or_append_left, get_or_default, get_or-map, length-map, with_items_is}
@@ -41,11 +41,11 @@ module _ (others : List Other) where
     same = slice_get-append_left others (made ∷ []) number (value.heap, value.root) is.same;
   }
 
-  -- The kept values remain valid.
+  -- If one more value is edited, then the kept values remain valid.
   pub all_stay : (made : Other) (kept : List Earlier) → AreMade others kept → AreMade (others ++ made ∷ []) kept
   all_stay made kept are = λ k d less. one_stays made (get_or kept k d).number (get_or kept k d).value (are k d less)
 
-  -- The value that was made last.
+  -- The value that was edited last satisfies `IsMade`.
   pub last_made : (number : ℕ) (value : Value) → IsValue (length value.heap) value.root → number ≡ length others
       → IsMade (others ++ (value.heap, value.root) ∷ []) number value
   last_made number value valid is = record {
@@ -68,18 +68,18 @@ module _ (others : List Other) where
   one_more kept made true are is = All-push IsMadeEntry kept made are is
   one_more kept made false are is = are
 
-  -- One more value, without those that are freed.
+  -- If one more value is kept and unneeded values are freed, then all kept values satisfy `IsMade`.
   pub still_made : (number : ℕ) (kept : List Earlier) (made : Earlier) → AreMade others kept → IsMadeEntry made → AreMade others (with_made (all_after number kept) made)
   still_made number kept made are is = one_more (all_after number kept) made (nat_lt made.number made.last) (after_made number kept are) is
 
--- The value that is found by its number.
+-- If a kept value is found by its number, then the value satisfies `IsMade`.
 pub found_made : (others : List Other) (kept : List Earlier) (number : ℕ) (value : Value) → AreMade others kept → Any (λ (e : Earlier). (e.number ≡ number) × (e.value ≡ Some value)) kept → IsMade others number value
 found_made others kept number value are (k, e, within, at, (same, is)) =
     let made : IfSome e.value (λ v. IsMade others e.number v) = subst (λ (x : Earlier). IfSome x.value (λ v. IsMade others x.number v)) at (are k e within) in
     subst (λ n. IsMade others n value) same (subst (λ (o : Option Value). IfSome o (λ v. IsMade others e.number v)) is made)
 
--- If a function changes no other entry, then applying it to this entry alone is the same as mapping
--- it.
+-- If a function changes only the entry at index `i`, then applying the function to this entry is
+-- the same as mapping the function.
 set_is_map : (f : Earlier → Earlier) (kept : List Earlier) (i : ℕ) (d : Earlier) → i < length kept
     → ((k : ℕ) (e : Earlier) → k < length kept → (k ≡ i → ⊥) → f (get_or kept k e) ≡ get_or kept k e) → set kept i (f (get_or kept i d)) ≡ map f kept
 set_is_map f [] i d within others = absurd (omega (arith, within))
@@ -91,7 +91,7 @@ set_is_map f (e ∷ kept) (suc i) d within others =
 
 -- ---- the search
 
--- The numbers increase.
+-- The numbers of the kept entries increase.
 pub numbers_rise : (kept : List Earlier) → AreInOrder kept → IsNonDecreasingBy (λ (e : Earlier). e.number) kept
 numbers_rise kept ordered i j d to within = ⊎_elim
     (λ less. let rises = ordered i j d less within in omega (arith, rises))
@@ -124,7 +124,7 @@ module _ (kept : List Earlier) (number : ℕ) (ordered : AreInOrder kept) (i : �
   found_entry k e within at is d =
       ap (λ n. get_or kept n d) (sym (is_position k e within at is)) ∙ (get_or_default kept k d e within ∙ at)
 
-  -- The entry has its value.
+  -- If a value is kept, then the entry that the search finds has a value.
   pub found_some : IsThere kept number → (d : Earlier) → (get_or kept i d).value ≡ None → ⊥
   found_some (k, e, within, at, (is, some)) d none =
       let entry = found_entry k e within at is d in
@@ -155,7 +155,7 @@ later_stays number e less = ap (λ b. if b then e else without e) (lt-ltb number
 past_goes : (number : ℕ) (e : Earlier) → e.last ≤ number → after_value number e ≡ without e
 past_goes number e past = ap (λ b. if b then e else without e) (le-ltb number e.last past)
 
--- The three cases for an entry.
+-- If an entry has another number than `from`, then `after_copy` does not change the entry.
 pub other_left : (from number : ℕ) (e : Earlier) → (e.number ≡ from → ⊥) → e ≡ after_copy from number e
 other_left from number e other = sym (ap (λ b. if b then after_value number e else e) (ne_eqb e.number from other))
 
@@ -207,7 +207,8 @@ pub no_copy : (action : Action) (edit : Edit) (number : ℕ) (kept : List Earlie
 no_copy action edit number kept is =
     subst (λ (a : Action). kept ≡ map (after_action a number) kept) (sym is) (sym (map_fixed (after_action (actions.Edit edit) number) kept (λ k d within. refl)))
 
--- The order does not change.
+-- If a function keeps the numbers of entries, then mapping the function keeps the order of the
+-- entries.
 order_left : (f : Earlier → Earlier) → ((e : Earlier) → (f e).number ≡ e.number) → (kept : List Earlier) → AreInOrder kept → AreInOrder (map f kept)
 order_left f same kept ordered i j d less within =
     let size = length-map kept f in
@@ -232,7 +233,7 @@ first_or_rest P line lines (suc k, x, within, at, is) = inr (k, x, omega (arith,
 in_none : (P : ScriptLine → Type 0) → Any P [] → ⊥
 in_none P (k, x, within, at, is) = omega (arith, within)
 
--- If the value of an entry is still kept, then another line names it.
+-- If the value of an entry is still kept after a line, then a later line names the value.
 named_by_rest : (action : Action) (number : ℕ) (rest : List ScriptLine) (e : Earlier)
     → (IsSome e.value → e.last ≤ number → CopiesFrom e.number action ⊎ Any (Names e.number) rest)
     → IsSome (after_action action number e).value → (after_action action number e).last ≤ number → Any (Names (after_action action number e).number) rest
@@ -269,7 +270,7 @@ pub none_left : (number : ℕ) (kept : List Earlier) → AreNamed number [] kept
 none_left number kept named = map_fixed (after_value number) kept
     (λ k d within. let e = get_or kept k d in stays_so number e (λ some past. in_none (Names e.number) (named k d within some past)))
 
--- The list after its slice was changed.
+-- If the items of a vector are mapped in place, then the vector has the mapped items.
 pub dropped : (v : Vec Earlier Global) (ws : List Earlier) (number : ℕ) → ws ≡ all_after number v.items → (with_items v ws).items ≡ all_after number v.items
 dropped v ws number is = with_items_is v ws (ap length is ∙ (length-map v.items (after_value number) ∙ sym v.ok.0)) ∙ is
 
@@ -279,7 +280,7 @@ pub pushed : {E : Type 0} (result : Result (Unit {0}) E) (old new : List Earlier
 pushed (Ok unit) old new made size room is full less = is
 pushed (Err e) old new made size room is full less = absurd (omega (arith, full, less))
 
--- If the value is used later, then it is kept.
+-- If a value is used later, then the value is kept.
 pub is_kept : (kept : List Earlier) (made : Earlier) → made.number < made.last → kept ++ made ∷ [] ≡ with_made kept made
 is_kept kept made less = sym (ap (λ b. if b then kept ++ made ∷ [] else kept) (lt-ltb made.number made.last less))
 
@@ -291,7 +292,7 @@ not_kept kept made used = at (nat_lt made.number made.last) refl where
 
 -- ---- the values that are needed
 
--- Before the first value, none is needed.
+-- Before the first value, no value is needed.
 pub none_needed : (lines : List ScriptLine) → AreEarlier lines 0 []
 none_needed lines = record {
   in_order = λ i j d less within. absurd (omega (arith, within));
@@ -299,12 +300,14 @@ none_needed lines = record {
   needed = λ i d within number copies less after. absurd (omega (arith, less));
 }
 
--- The last value into which a value is copied.
+-- If `last` is the last value into which a value is copied, then no line copies the value into a
+-- later value.
 pub used_up_to : (lines : List ScriptLine) (number : ℕ) (last : Option ℕ) → MatchOption last (IsUnused lines number) (IsLastUse lines number) → IsUsedUpTo lines number (unwrap_or last 0)
 used_up_to lines number None unused = λ i d within copies. absurd (unused i d within copies)
 used_up_to lines number (Some last) (some, all) = all
 
--- The bound may be replaced by any greater number.
+-- If no line copies from a value after `last`, then no line copies from the value after any greater
+-- number.
 pub used_within : (lines : List ScriptLine) (number last : ℕ) → last ≤ number → IsUsedUpTo lines number last → IsUsedUpTo lines number number
 used_within lines number last most used = λ i d within copies. let up_to = used i d within copies in omega (arith, up_to, most)
 
@@ -318,7 +321,7 @@ there_before P xs ys (k, e, within, at, is) =
     (k, e, omega (arith, size, within), get_or_append_left xs ys e k within ∙ at, is)
 
 module _ (lines : List ScriptLine) (n : ℕ) (kept : List Earlier) (are : AreEarlier lines n kept) where
-  -- The entries after one more value.
+  -- If one more value is edited, then each entry remains a valid entry.
   entry_after : (e : Earlier) → IsEntry lines n e → IsEntry lines (n + 1) (after_value n e)
   entry_after e is = at (nat_lt n e.last) refl where
     at : (b : Bool) → nat_lt n e.last ≡ b → IsEntry lines (n + 1) (if b then e else without e)
@@ -343,7 +346,7 @@ module _ (lines : List ScriptLine) (n : ℕ) (kept : List Earlier) (are : AreEar
   below_after = All-map (λ (e : Earlier). e.number < n) (after_value n) kept
       (λ k d within. let same = number_left n (get_or kept k d) in let less = (are.entries k d within).before in omega (arith, same, less))
 
-  -- If a value is copied into a value after the next one, then it stays.
+  -- If a value is copied into a value after the next value, then the value stays kept.
   old_there : (i : ℕ) (d : ScriptLine) → i < length lines → (number : ℕ) → CopiesFrom number (get_or lines i d).action → n + 1 ≤ (get_or lines i d).value
       → IsThere kept number → IsThere (all_after n kept) number
   old_there i d within number copies after (k, e, inside, at, (same, some)) =
@@ -353,7 +356,7 @@ module _ (lines : List ScriptLine) (n : ℕ) (kept : List Earlier) (are : AreEar
       let here : get_or (all_after n kept) k e ≡ e = get_or-map (after_value n) kept k e e inside ∙ (ap (after_value n) at ∙ later_stays n e (omega (arith, after, up_to))) in
       (k, e, omega (arith, size, inside), here, (same, some))
 
-  -- One more value.
+  -- Lemmas on the entry of one more value.
   module _ (made : Earlier) (is : made.number ≡ n) (some : IsSome made.value) (last : made.number < made.last → IsLastUse lines n made.last) (used : IsUsedUpTo lines n made.last) where
     new_entry : made.number < made.last → IsEntry lines (n + 1) made
     new_entry less = record {
@@ -393,7 +396,7 @@ module _ (lines : List ScriptLine) (n : ℕ) (kept : List Earlier) (are : AreEar
       needed = λ i d within number copies less after. there_more i d within number copies less after (nat_lt made.number made.last) (eqb number n) refl refl;
     }
 
-  -- If a value is freed after the next one, then a line of the next one copies from it.
+  -- If a value is freed after value `n`, then a line of value `n` copies from the value.
   named_now : (number last : ℕ) → last ≡ n → Any (λ (line : ScriptLine). CopiesFrom number line.action × (line.value ≡ last)) lines → Any (λ (line : ScriptLine). CopiesFrom number line.action) (lines_of_value n lines)
   named_now number last is (k, line, within, at, (copies, value)) =
       let own : Contains (lines_of_value n lines) line = Contains-filter (λ (line : ScriptLine). eqb line.value n) lines line (k, within, at) (eq-eqb line.value n (value ∙ is)) in
@@ -405,7 +408,8 @@ module _ (lines : List ScriptLine) (n : ℕ) (kept : List Earlier) (are : AreEar
       let at_least = entry.used some in
       named_now (get_or kept k d).number (get_or kept k d).last (omega (arith, at_least, past)) entry.last.0
 
-  -- If no line edits a value or copies from it later, then the entries do not change.
+  -- If no line edits value `n` and no later line copies from value `n`, then the entries do not
+  -- change.
   left_entry : AreNamed n [] kept → All (IsEntry lines (n + 1)) kept
   left_entry named k d within =
       let entry = are.entries k d within in record {
@@ -457,7 +461,6 @@ module _ (lines : List ScriptLine) (n : ℕ) (kept : List Earlier) (are : AreEar
 -- ---- the request of a line
 
 module _ (table : Tabled) (others : List Other) (old new : List Obj) (old_root new_root : Val) where
-  -- An edit.
   pub edit_applied : (edit : Edit) (result : Result (Unit {0}) EditRefusal) → IsApplied table edit old old_root new new_root result
       → IsLineApplied table others (actions.Edit edit) old old_root new new_root result
   edit_applied edit (Ok unit) is = is
@@ -466,7 +469,6 @@ module _ (table : Tabled) (others : List Other) (old new : List Obj) (old_root n
     at None is = is
     at (Some reason) is = is
 
-  -- A copy from an earlier value.
   pub graft_applied : (path source : List ℕ) (number : ℕ) (value : Value) (result : Result (Unit {0}) EditRefusal) → IsMade others number value
       → IsGraftApplied table path (value.heap, value.root) source old old_root new new_root result
       → IsLineApplied table others (actions.Graft path number source) old old_root new new_root result

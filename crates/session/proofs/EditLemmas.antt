@@ -44,13 +44,13 @@ use Rattle.run_types.specs.Bytes.{WritesBytes}
 -- ---- lines
 
 module _ (r : Prepared) (others : List Other) (k : ℕ) (line : ScriptLine) where
-  -- A line of another value changes nothing.
+  -- A line whose value is `k` is one of the lines that edit value `k`.
 
   module _ (ready : IsReady r) (agree : TablesAnswerLinesAgree) (own : line.value ≡ k) (old : Value) where
     own_line : (rest : List ScriptLine) (all : Edited Ty) → Edit r others (line ∷ lines_of_value k rest) old.heap old.root all → Edit r others (lines_of_value k (line ∷ rest)) old.heap old.root all
     own_line rest all edits = subst (λ b. Edit r others (if b then line ∷ lines_of_value k rest else lines_of_value k rest) old.heap old.root all) (sym (eq-eqb line.value k own)) edits
 
-    -- The result of an edit by the table is its result at the type.
+    -- The result of an edit by the table is the result of the edit at the type.
     pub line_applied : (new : Value) → IsValue (length new.heap) new.root → IsLineApplied r.table others line.action old.heap old.root new.heap new.root (Ok tt) → EditsOn r others k line old new
     line_applied new valid applied = at (agree r.decls r.ty r.table ready.made others line.action old.heap old.root (Ok (new.heap, new.root)) applied) where
       at : (other : Answer Ty) × IsDeclaredLine r.decls r.ty others line.action old.heap old.root other × SayTheSame r.table (Ok (new.heap, new.root)) other → EditsOn r others k line old new
@@ -71,7 +71,7 @@ module _ (r : Prepared) (others : List Other) (k : ℕ) (line : ScriptLine) wher
         known ∙ ap (λ t. script_line line.number t) (same (position_on r.lines line.number)),
       )
 
-    -- If a line is refused, then the exit reason states its reason.
+    -- If a line is refused, then the exit reason states the reason of the refusal.
     pub refused_by : (new : Value) (refusal : EditRefusal) (exit : Exit) → IsReasonExit r line.number (reason_of refusal) exit → IsLineApplied r.table others line.action old.heap old.root new.heap new.root (Err refusal)
         → IsRefusedLine r others k line old exit
     refused_by new refusal exit known (same, same_root, is) = at (reason_of refusal) known is where
@@ -79,7 +79,7 @@ module _ (r : Prepared) (others : List Other) (k : ℕ) (line : ScriptLine) wher
       at None known is = absurd known
       at (Some reason) known is = line_refused reason exit known is
 
--- If the error of a literal is not out of memory, then it has a reason.
+-- If the error of a literal is not out of memory, then the error has a reason.
 pub literal_known : (fault : LiteralFault) → fault ≢ literals.Memory → (reason : Reason ℕ) × (literal_reason fault ≡ Some reason)
 literal_known (literals.Syntax position) some = (no_literal position, refl)
 literal_known (literals.Mismatch position t) some = (misread (mismatch_at position t), refl)
@@ -94,7 +94,7 @@ step_known refusal side step is = (no_field side step, ap reason_of is)
 pub type_known : (refusal : EditRefusal) (fault : Fault) → refusal ≡ refusals.IllTyped fault → (reason : Reason ℕ) × (reason_of refusal ≡ Some reason)
 type_known refusal fault is = (ill_typed fault, ap reason_of is)
 
--- If a refusal is not out of memory, then the exit reason states its reason.
+-- If a refusal is not out of memory, then the exit reason states the reason of the refusal.
 pub reason_exit : (r : Prepared) (number : ℕ) (refusal : EditRefusal) (text : List ℕ) → (reason : Reason ℕ) × (reason_of refusal ≡ Some reason) → text ≡ reason_or_none (text_at r.table) (position_on r.lines number) (reason_of refusal)
     → IsReasonExit r number (reason_of refusal) (script_line number text)
 reason_exit r number refusal text (reason, is) encoded = at (reason_of refusal) is encoded where
@@ -102,12 +102,12 @@ reason_exit r number refusal text (reason, is) encoded = at (reason_of refusal) 
   at None is encoded = absurd (cc is)
   at (Some other) is encoded = ap (λ t. script_line number t) encoded
 
--- The result of the lines so far continues to the result of all lines.
+-- The result of the lines applied up to now leads to the result of all lines.
 pub record EditedSoFar (r : Prepared) (others : List Other) (k : ℕ) (lines rest : List ScriptLine) (old value : Value) : Type 0 where
   pub valid : IsValue (length value.heap) value.root
   pub goes_on : (all : Edited Ty) → Edit r others (lines_of_value k rest) value.heap value.root all → Edit r others (lines_of_value k lines) old.heap old.root all
 
--- Filtering twice is the same as filtering once.
+-- Filtering a list twice gives the result of filtering the list once.
 same_kept : {X : Type 0} (test : X → Bool) (xs : List X) → filter test (filter test xs) ≡ filter test xs
 same_kept test [] = refl
 same_kept test (x ∷ xs) = at (same_kept test xs) (test x) refl where
@@ -116,7 +116,7 @@ same_kept test (x ∷ xs) = at (same_kept test xs) (test x) refl where
   at rest false is = rest
 
 module _ (r : Prepared) (others : List Other) (k : ℕ) (lines : List ScriptLine) (old : Value) where
-  -- Only the lines of a value edit it.
+  -- Only the lines of a value edit the value.
   pub edits_begin : IsValue (length old.heap) old.root → (own : List ScriptLine) → own ≡ lines_of_value k lines → EditedSoFar r others k lines own old old
   edits_begin valid own are = record {
     valid = valid;
@@ -148,7 +148,7 @@ module _ (r : Prepared) (others : List Other) (k : ℕ) (lines : List ScriptLine
 -- ---- the value
 
 module _ (e : Edits) (others : List Other) (k : ℕ) (old : Value) where
-  -- The value lacks the type, or memory ran out.
+  -- If the value lacks the type, or memory ran out, then nothing is written.
   pub checked_error : (out : ByteState) (error : Error) (result : Result (Unit {0}) Error) → IsErrAnd result (λ h. h ≡ error) → ChecksType {U = Unit {0}} e.requested.now k old.heap old.root (Err error)
       → WritesEdited e others k old.heap old.root (change out out) result
   checked_error out error (Ok unit) is c = absurd is
@@ -159,7 +159,7 @@ module _ (e : Edits) (others : List Other) (k : ℕ) (old : Value) where
     at (aborts.Exit exit) (inr (text, why, some_not, known)) = (inr (untyped text, inr (record { text = text; why = why; some_not = some_not; is = refl }), known), writes_nothing out)
 
   module _ (has : ChecksType {U = Unit {0}} e.requested.now k old.heap old.root (Ok tt)) where
-    -- A line is refused, or memory ran out.
+    -- If a line is refused, or memory ran out, then nothing is written.
     pub lines_error : (new : Value) (out : ByteState) (error : Error) (result : Result (Unit {0}) Error) → IsErrAnd result (λ h. h ≡ error) → EditsLines {U = Unit {0}} e.requested.now others k e.script.now.lines old new (Err error)
         → WritesEdited e others k old.heap old.root (change out out) result
     lines_error new out error (Ok unit) is l = absurd is
@@ -183,7 +183,7 @@ module _ (e : Edits) (others : List Other) (k : ℕ) (old : Value) where
       at (Err (aborts.Exit exit)) (inr (why, is, known), none) = (inr (why, lifted (Err why) is, known), none)
       at (Err aborts.WriteFault) (bytes, are, part) = (bytes, lifted (Ok bytes) are, part)
 
--- If the bytes are written, then the result was made.
+-- If a statement holds, then the statement holds whenever the result is `Ok`.
 pub made_where_written : {P : Type 0} (result : Result (Unit {0}) Error) → P → OnOk result P
 made_where_written (Ok unit) made = made
 made_where_written (Err error) made = tt

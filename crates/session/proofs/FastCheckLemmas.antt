@@ -62,8 +62,8 @@ use Rattle.session.proofs.EarlierLemmas.{all_stay, left_needed}
 use Rattle.session.proofs.ReadLemmas.{prefix_goes_on, none_goes_on, encode_count, next_aborts, Aborts, last_ok-snoc}
 use Rattle.session.proofs.VerdictLemmas.{writes_yes, no_line}
 
--- If the streaming check shows that a value has the type of the table, then it has the declared
--- type and each of its closed instances.
+-- If the streaming check shows that a value has the type of the table, then the value has the
+-- declared type and each closed instance of the type.
 yes_prefix : (r : Prepared) → IsReady r → TheRootIsFirst → TablesDecide → (limit n : ℕ) (bytes : List ℕ) → IsTypedPrefix (table_of r.table) limit n bytes → IsVerdictOn r limit n bytes yes
 yes_prefix r ready first decide limit n bytes f =
     let write = writes_yes r ready first (objects_of f.tree 0) (root f.tree 0) decide f.typed queries.Verdict refl [] (codes "yes") refl in record {
@@ -73,7 +73,8 @@ yes_prefix r ready first decide limit n bytes f =
       outputs = (write.0, write.1, ap line write.2);
     }
 
--- The same, if the check continues with kept bytes.
+-- If the streaming check continues with kept bytes and shows that a value has the type, then the
+-- verdict is `yes`.
 pub yes_next :
     (r : Prepared) → IsReady r → TheRootIsFirst → TablesDecide → (limit : ℕ) (old : StreamCheck) (chunk : List ℕ) (new : StreamCheck) (n : ℕ) → IsTypedNext (table_of r.table) limit old chunk new n → IsVerdictNext r limit old chunk new n yes
 yes_next r ready first decide limit old chunk new n it = record {
@@ -84,7 +85,7 @@ yes_next r ready first decide limit old chunk new n it = record {
   stream_check = it.stream_check;
 }
 
--- If a value has exactly one mismatch, then the line of this mismatch is the verdict.
+-- If a value has exactly one mismatch, then the line of the mismatch is the output for the verdict.
 pub no_prefix :
     (r : Prepared) (limit n : ℕ) (bytes : List ℕ) (found : FoundMismatch) (f : IsFound (table_of r.table) limit n bytes found) (text : List ℕ) → WritesNo (type_over r) (objects_of f.prefix.tree 0) (root f.prefix.tree 0) [] text
     → IsVerdictOn r limit n bytes (no_in (line text))
@@ -99,7 +100,8 @@ no_prefix r limit n bytes found f text writes =
 same_found : (found other : FoundMismatch) (holds : Option FoundMismatch) → holds ≡ Some found → holds ≡ Some other → found ≡ other
 same_found found other holds is also = let same : Some found ≡ Some other = sym is ∙ also in cc same
 
--- The line of the mismatch is reported.
+-- If the streaming check continues with kept bytes and finds one mismatch, then the line of the
+-- mismatch is reported.
 pub no_next :
     (r : Prepared) (limit : ℕ) (old : StreamCheck) (chunk : List ℕ) (new : StreamCheck) (n : ℕ) → IsMissedNext (table_of r.table) limit old chunk new n → (found : FoundMismatch) → held new ≡ Some found → (text : List ℕ)
     → ((limit n : ℕ) (bytes : List ℕ) → IsFound (table_of r.table) limit n bytes found → IsVerdictOn r limit n bytes (no_in text)) → IsVerdictNext r limit old chunk new n (no_in text)
@@ -115,7 +117,7 @@ no_next r limit old chunk new n it found holds text outputs =
 
 -- ---- a value that consists of the kept bytes and the first n current bytes
 
--- If the reader is between values, then it has taken no byte of the next one.
+-- If the reader is between values, then the reader has taken no byte of the next value.
 pub nothing_taken : (w : ValueTask) (taken : List ℕ) (output : List Output) (values : Values) (h : HasRead w values taken output) → IsBetween values → h.prefix ≡ []
 nothing_taken w taken output values h between = at (between (word_limit w) h.prefix h.leads) where
   at : EndsInput {U = Unit {0}} (word_limit w) h.prefix (Ok tt) → h.prefix ≡ []
@@ -140,7 +142,7 @@ module _ (w : ValueTask) (before : List ℕ) (output : List Output) (values : Va
         goes_on = goes_on declared_types (task_of w) h.trees kept are_bytes e.0 e.1 e.2 (λ exit at. prefix_goes_on w (word_limit w) h.trees kept exit may are_bytes prefix at);
       }
 
-  -- The input ends with the prefix.
+  -- If the input ends with a prefix of a value, then the run ends with an error.
   pub ends_kept : 0 < length kept → (o : ByteState) (exit : Exit) → IsOrMemory (value values.count (truncated_text (length kept))) exit
       → WritesLast (commands declared_types) (task_of w) output (items_of h.trees) kept (change o o) (Err (aborts.Exit exit))
   ends_kept some o exit (inr memory) = (inr memory, writes_nothing o)
@@ -179,7 +181,7 @@ module _ (r : Bor Prepared) (limit : ℕ) (before : List ℕ) (output : List Out
       (first_more declared_types (task_of w) (before ++ value_bytes) h.trees output value_bytes [] known.tree next
       (subst (λ b. PrintFirst declared_types (task_of w) (before ++ value_bytes) h.trees output b) (sym (append-nil value_bytes)) whole) encoded_kept known.outputs)
 
-  -- Writing the output fails.
+  -- If writing a verdict's line fails, then the run ends with a write error.
   pub known_fault : AreBytes kept → IsPrefix limit kept → (a b : ByteState) → WritesPart (change a b) next.text
       → AbortsIn (commands declared_types) (task_of w) (before ++ kept) buffered output (change a b) aborts.WriteFault
   known_fault are_bytes prefix a b part =
@@ -195,7 +197,7 @@ module _ (r : Bor Prepared) (limit : ℕ) (before : List ℕ) (output : List Out
         part,
       )
 
-  -- The line was written, and the reader waits for the next value.
+  -- If a verdict's line was written, then the reader waits for the next value.
   pub known_read : HasRead w (record values { ok = values.ok && next.ok; last = next.ok; count = values.count + 1 }) ((before ++ kept) ++ take n buffered) (output ++ next ∷ [])
   known_read =
       let trees : List Tree = h.trees ++ known.tree ∷ [] in
@@ -215,8 +217,8 @@ module _ (r : Bor Prepared) (limit : ℕ) (before : List ℕ) (output : List Out
 
 -- ---- a value that is written unchanged
 
--- If the streaming check shows that a value has the type, and its bytes are those that the runtime
--- writes, then it is unchanged.
+-- If the streaming check shows that a value has the type and has the bytes that the runtime writes,
+-- then the value satisfies `IsUnchanged`.
 unchanged_prefix : (r : Prepared) → IsReady r → TheRootIsFirst → TablesDecide → (limit n : ℕ) (bytes : List ℕ) → IsTypedPrefix (table_of r.table) limit n bytes → IsCanonicalBytes (take n bytes) → IsUnchanged r limit n bytes
 unchanged_prefix r ready first decide limit n bytes f written =
     let graph = objects_of f.tree 0 in
@@ -243,14 +245,14 @@ unchanged_next r ready first decide limit old chunk new n none it written =
       stream_check = it.stream_check;
     }
 
--- A chunk was kept of a value of which no byte was kept before.
+-- If no byte was kept before a chunk was kept, then the kept bytes are the chunk.
 pub only_kept : (old new : StreamCheck) (chunk : List ℕ) → old.kept.items ≡ [] → new.kept.items ≡ old.kept.items ++ chunk → new.kept.items ≡ chunk
 only_kept old new chunk none same = same ∙ ap (λ kept. kept ++ chunk) none
 
 abbrev answer_of : List ℕ → Result (List ℕ) Unedited
 answer_of bytes = Ok bytes
 
--- If `compat` is false, then the bytes of a value are those of its tree.
+-- If `compat` is false, then the bytes of a value are the canonical bytes of the value's tree.
 left_bytes : (compat : Bool) (tree : Tree) (large : Option TooLargeFor32) → compat ≡ false → bytes_for compat tree large ≡ answer_of (canon tree)
 left_bytes compat tree None small = refl
 left_bytes false tree (Some large) small = refl
@@ -297,7 +299,7 @@ module _ (e : Edits) (limit : ℕ) (taken : List ℕ) (output : List Output) (va
       first_more declared_types (task_of value_task) (taken ++ take n buffered) h.trees output (take n buffered) [] seen.tree write_output
       (subst (λ b. PrintFirst declared_types (task_of value_task) (taken ++ take n buffered) h.trees output b) (sym (append-nil (take n buffered))) whole) seen.encoded left_outputs
 
-  -- Writing the output fails.
+  -- If writing an unchanged value fails, then the run ends with a write error.
   pub left_fault : (a b : ByteState) → WritesPart (change a b) (take n buffered) → Aborts value_task taken output values h buffered (change a b) aborts.WriteFault
   left_fault a b part = next_aborts value_task taken output values h buffered n a b values aborts.WriteFault (write_output, (h.trees ++ seen.tree ∷ [], [], left_first), part)
 
@@ -318,7 +320,7 @@ module _ (e : Edits) (limit : ℕ) (taken : List ℕ) (output : List Output) (va
         needed = subst (λ k. AreEarlier lines k values.earlier.items) (sym (length-append h.trees (seen.tree ∷ []))) (left_needed lines (length h.trees) values.earlier.items h.kept.needed left_here.lines left_here.unused);
       }
 
-  -- The bytes were written, and the reader waits for the next value.
+  -- If an unchanged value was written, then the reader waits for the next value.
   pub left_read : HasRead value_task (record values { last = true; count = values.count + 1 }) (taken ++ take n buffered) (output ++ write_output ∷ [])
   left_read =
       let leads : Leads limit [] values.reader = subst (λ prefix. Leads limit prefix values.reader) (nothing_taken value_task taken output values h between) h.leads in record {

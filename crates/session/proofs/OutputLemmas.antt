@@ -1,4 +1,4 @@
--- Writing the output for a value, and the effect on the output for the values so far.
+-- Writing the output for a value, and the effect on the output for all values read up to now.
 use Rattle.std.proofs.Common.{◌≡◌, ℕ, ◌+◌, Bool, List, [], ◌∷◌, ◌++◌, Result, Ok, Err, inl, refl, sym, subst}
 use Rattle.std.specs.Prelude.{◌&&◌, IsErrAnd, Vec}
 use Rattle.std.specs.declared.alloc.Global.{Global}
@@ -22,12 +22,13 @@ use Rattle.session.specs.Verdict.{IsOutputOf}
 use Rattle.session.proofs.ReadLemmas.{outputs_read, value_output, value_written}
 
 module _ (printing : Printing) (graph : List Obj) (root : Val) (out : Change ByteState) where
-  -- Memory ran out, propagated by `?`.
+  -- If memory ran out and `?` propagated the error, then nothing was written.
   pub output_memory : (result : Result Bool Error) → IsErrAnd result (λ h. h ≡ aborts.Exit out_of_memory) → Writes out [] → WritesOutput printing graph root out result
   output_memory (Ok ok) is none = absurd is
   output_memory (Err error) is none = subst (λ h. WritesOutput printing graph root out (Err h)) (sym is) (refl, none)
 
-  -- Writing the output fails, propagated by `?`.
+  -- If writing the output fails and `?` propagates the error, then a part of the output was
+  -- written.
   pub output_fault : (result : Result Bool Error) → IsErrAnd result (λ h. h ≡ aborts.WriteFault) → (text : List ℕ) (ok : Bool) → IsOutputOf printing graph root text ok → WritesPart out text
       → WritesOutput printing graph root out result
   output_fault (Ok ok) is text fine it part = absurd is
@@ -35,7 +36,7 @@ module _ (printing : Printing) (graph : List Obj) (root : Val) (out : Change Byt
 
 module _ (printing : Printing) (most : ℕ) (taken : List ℕ) (output : List Output) (values : Values) (v : IsValueRead (value_tasks.Print printing most) values taken output) (value : Value)
     (f : Finishes most v.whole value) where
-  -- The output was written, and the reader waits for the next value.
+  -- If the output for a value was written, then the reader waits for the next value.
   pub output_written : (out : Change ByteState) (ok : Bool) → WritesOutput printing value.heap value.root out (Ok ok) → (reader : Reader) → Leads most [] reader → (all : Bool) → all ≡ (values.ok && ok)
       → (line : Vec ℕ Global)
       → (next : Output) × HasRead (value_tasks.Print printing most) (record { reader = reader; ok = all; last = ok; count = values.count + 1; kept = values.kept; earlier = values.earlier; line = line }) taken (output ++ next ∷ []) × Writes out next.text
@@ -57,7 +58,7 @@ module _ (printing : Printing) (most : ℕ) (taken : List ℕ) (output : List Ou
         part,
       )
 
-  -- The output was not written.
+  -- If the output for a value was not written, then the run ends with an error.
   pub output_aborts : (out : Change ByteState) (error : Error) (new : Values) (result : Result (Unit {0}) Error) → IsErrAnd result (λ h. h ≡ error)
       → WritesOutput printing value.heap value.root out (Err error) → WritesNext {U = Unit {0}} (value_tasks.Print printing most) taken output v.trees v.whole out new result
   output_aborts out error new (Ok unit) is p = absurd is

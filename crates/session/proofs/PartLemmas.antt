@@ -266,15 +266,15 @@ pub only_this : (IsOf : Request → Type 0) (arguments : List (List ℕ)) (reque
 only_this IsOf arguments request asks of other asks' =
     subst IsOf (one_request arguments request other asks asks') of
 
--- An `Account` by the set of the request is one by the whole set.
+-- An `Account` by the set to which a request belongs is an `Account` by the whole set.
 pub all_account : {A : Type 0} (c : Commands A) (IsOf : Request → Type 0) → IsPart c IsOf
     → (arguments : List (List ℕ)) (call : Call) (request : Request)
     → Asks arguments request → IsOf request → Account c arguments call → Account all_commands arguments call
 all_account c IsOf part arguments call request asks of account =
     part.account arguments call (only_this IsOf arguments request asks of) account
 
--- Without `--skip`, the specification of a run by the whole set implies the specification by the
--- set itself.
+-- If no bytes are skipped, then the specification of a run by the whole set implies the
+-- specification by the set without `--skip`.
 pub part_at_once : {A : Type 0} (c : Commands A) (IsOf : Request → Type 0)
     → IsPart (skipping passed_by c) IsOf → (arguments : List (List ℕ)) (call : Call) (request : Request)
     → Asks arguments request → IsOf request → (passed_by request).bytes ≡ 0
@@ -285,7 +285,8 @@ part_at_once c IsOf part arguments call request asks of none all =
     subst (λ r. (passed_by r).bytes ≡ 0) (one_request arguments request other asks asks') none)
     call (part.run_spec arguments call (only_this IsOf arguments request asks of) all)
 
--- The same for the commands on values, also without `--only`.
+-- If `--skip` and `--only` are not used, then the specification of a run by the whole set implies
+-- the specification by the commands on values.
 pub values_at_once : IsPart on_values_after IsOfValues
     → (arguments : List (List ℕ)) (call : Call) (request : Request)
     → Asks arguments request → IsOfValues request → (passed_by request).bytes ≡ 0

@@ -38,7 +38,8 @@ use Rattle.marshal_read.specs.Reader.{Feeds as FeedsReader}
 use Rattle.session.proofs.ReadLemmas.{holds, prefix_read}
 use Rattle.session.proofs.FastCheckLemmas.{holds_kept, ends_kept}
 
--- The statement holds for a stronger condition before and a weaker one after.
+-- If `Feeds` holds, then `Feeds` holds for a stronger condition before the call and a weaker
+-- condition after the call.
 pub feeds_weaker :
     {A : Type 0} (c : Commands A) (a : A) (before before' after after' : Has) (buffered : List ℕ) (out : Change ByteState) (result : Result ℕ Error) → ((bytes : List ℕ) (output : List Output) → before' bytes output → before bytes output)
     → ((bytes : List ℕ) (output : List Output) → after bytes output → after' bytes output) → Feeds c a before after buffered out result → Feeds c a before' after' buffered out result
@@ -49,7 +50,7 @@ feeds_weaker c a before before' after after' buffered out (Ok n) to from (some, 
 )
 feeds_weaker c a before before' after after' buffered out (Err error) to from feeds = λ bytes output there. feeds bytes output (to bytes output there)
 
--- Whether bytes are kept.
+-- The test for kept bytes returns true if and only if no bytes are kept.
 pub none_or_some : (kept seen : List ℕ) (r : Bool) → seen ≡ kept → r ≡ (length seen == 0) → MatchBool r (kept ≡ []) (kept ≡ [] → ⊥)
 none_or_some kept seen r same is = subst (λ bytes. MatchBool r (bytes ≡ []) (bytes ≡ [] → ⊥)) same (at r is) where
   at : (r : Bool) → r ≡ (length seen == 0) → MatchBool r (seen ≡ []) (seen ≡ [] → ⊥)
@@ -60,7 +61,7 @@ pub some_length : (bytes : List ℕ) → (bytes ≡ [] → ⊥) → 0 < length b
 some_length [] some = absurd (some refl)
 some_length (b ∷ bytes) some = omega arith
 
--- No bytes are kept.
+-- If no bytes are kept, then all taken bytes precede the kept bytes.
 none_kept : (g : StreamCheck) (taken before : List ℕ) → g.kept.items ≡ [] → taken ≡ before ++ g.kept.items → before ≡ taken
 none_kept g taken before none whole = sym (whole ∙ (ap (λ kept. before ++ kept) none ∙ append-nil before))
 
@@ -75,7 +76,7 @@ read_taken w values g taken output none checked h = record {
   checked = checked;
 }
 
--- No bytes are kept, whatever was checked.
+-- If no bytes are kept, then the state satisfies `IsChecked`, whatever was checked.
 pub fresh_checked : (w : ValueTask) (values : Values) (g : StreamCheck) → g.kept.items ≡ [] → ((r : Bor Prepared) (limit : ℕ) → IsStreamCheck (table_of r.now.table) limit g) → IsChecked w values g
 fresh_checked (value_tasks.Print (printings.Report r queries.Verdict) limit) values g none stream_check = (stream_check r limit, inl none)
 fresh_checked (value_tasks.Print (printings.Report r (queries.Text style)) limit) values g none stream_check = none
@@ -106,18 +107,18 @@ kept_prefix (value_tasks.Edit e limit) values g (stream_check, inr between) =
 kept_prefix (value_tasks.Compare limit) values g none = inl none
 
 module _ (w : ValueTask) (values : Values) (g : StreamCheck) (taken : List ℕ) (output : List Output) (h : HasTaken w values g taken output) where
-  -- The bytes taken so far give no exit reason.
+  -- The bytes taken up to now give no exit reason.
   pub holds_taken : HaveNoExit (commands declared_types) (task_of w) taken output
   holds_taken = ⊎_elim
       (λ none. holds w taken output values (all_read w values g taken output none h))
       (λ (k : IsKeptPrefix w values g). subst (λ bytes. HaveNoExit (commands declared_types) (task_of w) bytes output) (sym h.whole) (holds_kept w h.before output values h.read k.between g.kept.items (k.may (length h.read.trees)) k.bytes k.is_prefix))
       (kept_prefix w values g h.checked)
 
-  -- Memory ran out.
+  -- If memory ran out, then the run ends with the exit reason for memory.
   pub memory_aborts_taken : (buffered : List ℕ) (o : ByteState) → AbortsIn (commands declared_types) (task_of w) taken buffered output (change o o) (aborts.Exit out_of_memory)
   memory_aborts_taken buffered o = (holds_taken, inr refl, writes_nothing o)
 
-  -- The input ends within a value.
+  -- If the input ends within a value, then the run ends with an error.
   pub ends_taken : 0 < length g.kept.items → (o : ByteState) (exit : Exit) → IsOrMemory (value values.count (truncated_text (length g.kept.items))) exit
       → (holds : HaveNoExit (commands declared_types) (task_of w) taken output) × WritesLast (commands declared_types) (task_of w) output holds.items holds.rest (change o o) (Err (aborts.Exit exit))
   ends_taken some o exit known = ⊎_elim
@@ -129,14 +130,14 @@ module _ (w : ValueTask) (values : Values) (g : StreamCheck) (taken : List ℕ) 
       (holds_kept w h.before output values h.read k.between g.kept.items may k.bytes k.is_prefix, ends_kept w h.before output values h.read k.between g.kept.items may k.bytes k.is_prefix some o exit known))
       (kept_prefix w values g h.checked)
 
-  -- The reader takes the kept bytes.
+  -- If the reader takes the kept bytes, then the reader has read all taken bytes.
   pub kept_read : (new : Values) → ((taken : List ℕ) → HasRead w values taken output → MayTake w values.count → HasRead w new (taken ++ g.kept.items) output) → (g.kept.items ≡ [] → ⊥) → HasRead w new taken output
   kept_read new reads some = ⊎_elim
       (λ none. absurd (some none))
       (λ (k : IsKeptPrefix w values g). subst (λ bytes. HasRead w new bytes output) (sym h.whole) (reads h.before h.read (k.may values.count)))
       (kept_prefix w values g h.checked)
 
--- All current bytes were kept.
+-- If all current bytes were kept, then all current bytes were taken.
 pub more_taken :
     (r : Bor Prepared) (limit : ℕ) (values : Values) (old new : StreamCheck) (taken : List ℕ) (output : List Output) (buffered : List ℕ) → (old.kept.items ≡ [] → IsBetween values) → new.kept.items ≡ old.kept.items ++ buffered
     → IsStreamCheck (table_of r.now.table) limit new → HasTaken (verdict_value_task r limit) values old taken output → HasTaken (verdict_value_task r limit) values new (taken ++ take (length buffered) buffered) (output ++ [])
@@ -149,7 +150,7 @@ more_taken r limit values old new taken output buffered due same stream_check h 
       checked = (stream_check, inr (⊎_elim due (λ between. between) h.checked.1));
     })
 
--- The reader takes a prefix of the next value.
+-- If the reader takes a prefix of the next value, then the reader has read the prefix.
 pub prefix_taken :
     (w : ValueTask) (taken : List ℕ) (output : List Output) (values : Values) (h : HasRead w values taken output) (prefix : List ℕ) (reader : Reader) (fed : Fed) → FeedsReader (word_limit w) h.prefix prefix reader fed → MayTake w values.count
     → fed.done ≡ false → HasRead w (record values { reader = reader }) (taken ++ prefix) output
@@ -165,7 +166,7 @@ abbrev IsVerdict : ValueTask → Bor Prepared → ℕ → Type 0
 IsVerdict w r limit = w ≡ verdict_value_task r limit
 
 module _ (w : ValueTask) (r : Bor Prepared) (limit : ℕ) (is : IsVerdict w r limit) (values : Values) (g : StreamCheck) where
-  -- The streaming check can be used.
+  -- If only verdicts are reported, then the streaming check can be used.
   pub ready_to_inspect : (taken : List ℕ) (output : List Output) → HasTaken w values g taken output → IsStreamCheck (table_of r.now.table) limit g
   ready_to_inspect taken output =
       let P : ValueTask → Type 0 = λ w. HasTaken w values g taken output → IsStreamCheck (table_of r.now.table) limit g in
@@ -185,7 +186,8 @@ module _ (w : ValueTask) (r : Bor Prepared) (limit : ℕ) (is : IsVerdict w r li
       let size : length taken ≡ length h.before + length g.kept.items = ap length h.whole ∙ length-append h.before g.kept.items in
       (h.before, output, h.read, omega (arith, size, short)))
 
-  -- The streaming check reported the verdict on a value.
+  -- If the streaming check reported the verdict on a value, then taking the value satisfies
+  -- `Feeds`.
   pub known_feeds :
       (new : Values) (g' : StreamCheck) (buffered : List ℕ) (out : Change ByteState) (result : Result ℕ Error) → g'.kept.items ≡ [] → IsStreamCheck (table_of r.now.table) limit g'
       → Feeds (commands declared_types) (task_of (verdict_value_task r limit)) (Later g.kept.items (HasRead (verdict_value_task r limit) values)) (HasRead (verdict_value_task r limit) new) buffered out result
@@ -197,7 +199,7 @@ module _ (w : ValueTask) (r : Bor Prepared) (limit : ℕ) (is : IsVerdict w r li
       (feeds_weaker (commands declared_types) (task_of v) (Later g.kept.items (HasRead v values)) (HasTaken v values g) (HasRead v new) (HasTaken v new g') buffered out result
       (λ bytes output h. (h.before, h.whole, h.read)) (λ bytes output h. read_taken v new g' bytes output none (stream_check, inl none) h) feeds)
 
-  -- The streaming check needs more bytes.
+  -- If the streaming check needs more bytes, then keeping the current bytes satisfies `Feeds`.
   pub more_feeds :
       (g' : StreamCheck) (buffered : List ℕ) (o : ByteState) → 0 < length buffered → (g.kept.items ≡ [] → IsBetween values) → g'.kept.items ≡ g.kept.items ++ buffered → IsStreamCheck (table_of r.now.table) limit g'
       → Feeds (commands declared_types) (task_of w) (HasTaken w values g) (HasTaken w values g') buffered (change o o) (Ok (length buffered))
@@ -207,7 +209,7 @@ module _ (w : ValueTask) (r : Bor Prepared) (limit : ℕ) (is : IsVerdict w r li
       subst P (sym is)
       (some, omega arith, λ bytes output h. ([], omega arith, more_taken r limit values g g' bytes output buffered due same stream_check h, writes_nothing o))
 
-  -- The streaming check is inconclusive.
+  -- If the streaming check is inconclusive, then the taken bytes stay the same.
   pub inconclusive_taken : (g' : StreamCheck) (taken : List ℕ) (output : List Output) → g'.kept.items ≡ g.kept.items → IsStreamCheck (table_of r.now.table) limit g' → HasTaken w values g taken output → HasTaken w values g' taken output
   inconclusive_taken g' taken output same stream_check =
       let P : ValueTask → Type 0 = λ w. HasTaken w values g taken output → HasTaken w values g' taken output in
@@ -222,7 +224,7 @@ module _ (w : ValueTask) (r : Bor Prepared) (limit : ℕ) (is : IsVerdict w r li
 -- ---- edits
 
 module _ (w : ValueTask) (e : Edits) (limit : ℕ) (is : w ≡ value_tasks.Edit e limit) (values : Values) (g : StreamCheck) where
-  -- The streaming check can be used.
+  -- If values are edited, then the streaming check can be used.
   pub ready_to_leave : (taken : List ℕ) (output : List Output) → HasTaken w values g taken output → IsStreamCheck (table_of e.requested.now.table) limit g
   ready_to_leave taken output =
       let P : ValueTask → Type 0 = λ w. HasTaken w values g taken output → IsStreamCheck (table_of e.requested.now.table) limit g in
@@ -237,7 +239,8 @@ module _ (w : ValueTask) (e : Edits) (limit : ℕ) (is : w ≡ value_tasks.Edit 
       let size : length taken ≡ length h.before + length g.kept.items = ap length h.whole ∙ length-append h.before g.kept.items in
       (h.before, output, h.read, omega (arith, size, short)))
 
-  -- The streaming check found a value that is written unchanged.
+  -- If the streaming check found a value that is written unchanged, then writing the value
+  -- satisfies `Feeds`.
   pub left_feeds :
       (new : Values) (g' : StreamCheck) (buffered : List ℕ) (out : Change ByteState) (result : Result ℕ Error) → g.kept.items ≡ [] → g'.kept.items ≡ [] → IsStreamCheck (table_of e.requested.now.table) limit g'
       → Feeds (commands declared_types) (task_of (value_tasks.Edit e limit)) (HasRead (value_tasks.Edit e limit) values) (HasRead (value_tasks.Edit e limit) new) buffered out result
@@ -249,7 +252,8 @@ module _ (w : ValueTask) (e : Edits) (limit : ℕ) (is : w ≡ value_tasks.Edit 
       (feeds_weaker (commands declared_types) (task_of v) (HasRead v values) (HasTaken v values g) (HasRead v new) (HasTaken v new g') buffered out result
       (λ bytes output h. all_read v values g bytes output none h) (λ bytes output h. read_taken v new g' bytes output none' (stream_check, inl none') h) feeds)
 
-  -- The streaming check needs more bytes.
+  -- If values are edited and the streaming check needs more bytes, then keeping the current bytes
+  -- satisfies `Feeds`.
   pub more_edited :
       (g' : StreamCheck) (buffered : List ℕ) (o : ByteState) → 0 < length buffered → g.kept.items ≡ [] → IsBetween values → g'.kept.items ≡ buffered → IsStreamCheck (table_of e.requested.now.table) limit g'
       → Feeds (commands declared_types) (task_of w) (HasTaken w values g) (HasTaken w values g') buffered (change o o) (Ok (length buffered))
@@ -273,14 +277,16 @@ module _ (w : ValueTask) (e : Edits) (limit : ℕ) (is : w ≡ value_tasks.Edit 
         ),
       )
 
-  -- The streaming check is inconclusive.
+  -- If values are edited and the streaming check is inconclusive, then the taken bytes stay the
+  -- same.
   pub inconclusive_edited : (g' : StreamCheck) (taken : List ℕ) (output : List Output) → g.kept.items ≡ [] → g'.kept.items ≡ [] → IsStreamCheck (table_of e.requested.now.table) limit g' → HasTaken w values g taken output → HasTaken w values g' taken output
   inconclusive_edited g' taken output none none' stream_check =
       let v : ValueTask = value_tasks.Edit e limit in
       let P : ValueTask → Type 0 = λ w. HasTaken w values g taken output → HasTaken w values g' taken output in
       subst P (sym is) (λ h. read_taken v values g' taken output none' (stream_check, inl none') (all_read v values g taken output none h))
 
--- Reading continues without a streaming check, or after an inconclusive one.
+-- If reading continues without a streaming check, or after an inconclusive check, then the call
+-- satisfies `Feeds`.
 pub read_feeds :
     (w w' : ValueTask) → w' ≡ w → (values new : Values) (g g' g'' : StreamCheck) (buffered : List ℕ) (out : Change ByteState) (result : Result ℕ Error) → ((taken : List ℕ) (output : List Output) → HasTaken w values g taken output → HasTaken w values g' taken output)
     → Feeds (commands declared_types) (task_of w) (HasTaken w values g') (HasTaken w new g'') buffered out result → Feeds (commands declared_types) (task_of w) (HasTaken w values g) (HasTaken w' new g'') buffered out result

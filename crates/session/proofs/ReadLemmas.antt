@@ -1,4 +1,4 @@
--- The output for the values so far, while a chunk is taken.
+-- The output for the values read up to now, while a chunk is taken.
 use Rattle.std.proofs.Common.{◌≡◌, ◌⊎◌, ℕ, zero, suc, ◌+◌, ◌^◌, ◌<◌, ◌≤◌, Bool, true, false, List, [], ◌∷◌, ◌++◌, length, take, drop, Result, Ok, Err, inl, inr, refl, sym, ap, ◌∙◌, subst, append_assoc, append-nil, length-append, take_all, arith}
 use Rattle.std.proofs.lemmas.List.{length-take-le, take-append-drop}
 use Rattle.std.specs.Prelude.{◌&&◌, ◌↔◌, ◌≢◌, IsTrue, IsErrAnd, IfSome, Vec}
@@ -68,7 +68,7 @@ prefix_or_value limit rest more tree are_bytes prefix (first, after, same, encod
     let size : length rest ≡ length first + length after = ap length same ∙ length-append first after in
     value_or_tail one_judgement_lem limit first after rest tree (cut (length rest)) are_bytes encoded same (omega (arith, some, size), refl, prefix)
 
--- If one more value may follow, then a prefix of one does not end the run.
+-- If one more value may follow, then a prefix of the value does not end the run.
 pub prefix_goes_on : (w : ValueTask) (limit : ℕ) (trees : List Tree) (rest : List ℕ) (exit : Exit) → MayTake w (length trees) → AreBytes rest → IsPrefix limit rest
     → ExitsAt declared_types (work_of w) limit trees rest exit → ⊥
 prefix_goes_on (value_tasks.Print (printings.Report r query) most) limit trees rest exit may are_bytes prefix at = at
@@ -86,7 +86,7 @@ none_goes_on (value_tasks.Edit e most) limit trees exit at =
     let size : length {A = ℕ} [] ≡ length s.0 + length s.1 = ap length s.2 ∙ length-append s.0 s.1 in omega (arith, some, size)
 none_goes_on (value_tasks.Compare most) limit trees exit at = at.1 refl
 
--- The bytes taken so far give no exit reason.
+-- The bytes taken up to now give no exit reason.
 abbrev pub holds : (w : ValueTask) (taken : List ℕ) (output : List Output) (values : Values) → HasRead w values taken output → HaveNoExit (commands declared_types) (task_of w) taken output
 holds w taken output values h =
     let e = prefix_end (word_limit w) h.prefix h.is_prefix in
@@ -97,11 +97,11 @@ holds w taken output values h =
       goes_on = goes_on declared_types (task_of w) h.trees h.prefix h.leads.bytes e.0 e.1 e.2 h.goes_on;
     }
 
--- A value remains one if further bytes follow.
+-- If further bytes follow a value, then the value remains the first value of the input.
 pub values_stay : (w : ValueTask) → ItemsStay (commands declared_types) (task_of w)
 values_stay w items = first_stays declared_types (word_limit w)
 
--- No value was read.
+-- If no value was read, then no value is kept.
 begins_kept : (w : ValueTask) (kept : List Value) (earlier : List Earlier) → kept ≡ [] → earlier ≡ [] → IsKept w [] kept earlier
 begins_kept (value_tasks.Print printing most) kept earlier none no_earlier = tt
 begins_kept (value_tasks.Edit e most) kept earlier none no_earlier = record {
@@ -129,7 +129,7 @@ begins w values ready leads counted ok last none no_earlier = record {
 
 -- ---- the end of the input
 
--- The output after two values.
+-- If two values are kept, then the final output states whether the two values are isomorphic.
 pub compares_agree : (kept : List Value) (trees : List Tree) → AllZip IsValueOf kept trees → (first second : Value) → kept ≡ first ∷ second ∷ [] → (agree : Bool)
     → (IsTrue agree ↔ Isomorphism first.heap first.root second.heap second.root) → FinishesRun declared_types compares trees (outputs (comparison agree))
 compares_agree kept trees are first second two agree is = at trees (subst (λ k. AllZip IsValueOf k trees) two are) where
@@ -144,13 +144,13 @@ compares_agree kept trees are first second two agree is = at trees (subst (λ k.
     refl,
   )
 
--- Writing the line fails, propagated by `?`.
+-- If writing the line of the comparison fails, then the result is the write error.
 pub last_fault : (trees : List Tree) (out : Change ByteState) (result : Result Bool Error) → IsErrAnd result (λ h. h ≡ aborts.WriteFault) → (final : Output) → FinishesRun declared_types compares trees (outputs final) → WritesPart out final.text
     → WritesComparison trees out result
 last_fault trees out (Ok ok) is final finishes part = absurd is
 last_fault trees out (Err error) is final finishes part = subst (λ h. WritesComparison trees out (Err h)) (sym is) (final, finishes, part)
 
--- There are not exactly two values.
+-- If there are not exactly two values, then the run ends with an error.
 pub compares_none : (kept : List Value) (trees : List Tree) → AllZip IsValueOf kept trees → length kept ≢ 2 → FinishesRun declared_types compares trees (outcome.exits not_two_values)
 compares_none kept [] are not = refl
 compares_none kept (t ∷ []) are not = refl
@@ -173,18 +173,18 @@ abbrev Replies : ValueTask → List Tree → List ℕ → outcome.Reply → Type
 Replies w trees rest last = EndsHere declared_types (task_of w) (items_of trees) rest last
 
 module _ (w : ValueTask) (taken : List ℕ) (output : List Output) (values : Values) (h : HasRead w values taken output) where
-  -- The end of the input is known.
+  -- The result of the end of the input is the result that the specification requires.
   abbrev Ends : Change ByteState → Result Bool Error → Type 0
   Ends out result = WritesLast (commands declared_types) (task_of w) output (items_of h.trees) h.prefix out result
 
-  -- The reader is at the end of a value.
+  -- If the reader is at the end of a value, then the input ends without a truncated value.
   ends_clean : EndsInput {U = Unit {0}} (word_limit w) h.prefix (Ok tt) → (last : outcome.Reply) → FinishesRun declared_types (work_of w) h.trees last → Replies w h.trees h.prefix last
   ends_clean end last finishes = record { trees = h.trees; are = refl; end = clean; tail = none end; ends = finishes } where
     none : EndsInput {U = Unit {0}} (word_limit w) h.prefix (Ok tt) → h.prefix ≡ []
     none (inl empty) = empty
     none (inr (tree, encoded)) = absurd (not_whole (word_limit w) h.prefix tree h.leads.bytes h.is_prefix encoded)
 
-  -- The reader is within a value.
+  -- If the reader is within a value, then the run ends with the error for a truncated value.
   pub ends_split : (truncated : Truncated) → EndsInput {U = Unit {0}} (word_limit w) h.prefix (Err truncated) → (o : ByteState) (exit : Exit)
       → IsOrMemory (exits.Value values.count (truncated_text truncated.taken)) exit → Ends (change o o) (Err (aborts.Exit exit))
   ends_split truncated within o exit (inr memory) = (inr memory, writes_nothing o)
@@ -201,7 +201,7 @@ module _ (w : ValueTask) (taken : List ℕ) (output : List Output) (values : Val
         writes_nothing o,
       )
 
-  -- There is no further output.
+  -- If there is no further output, then the input ends without writing.
   silent_end : EndsInput {U = Unit {0}} (word_limit w) h.prefix (Ok tt) → FinishesRun declared_types (work_of w) h.trees (outputs nothing_output) → (o : ByteState) (ok : Bool) → ok ≡ values.ok
       → Ends (change o o) (Ok ok)
   silent_end end finishes o ok same = (
@@ -211,7 +211,7 @@ module _ (w : ValueTask) (taken : List ℕ) (output : List Output) (values : Val
     writes_nothing o,
   )
 
--- Nothing more is written for values with output.
+-- If the operation writes output for each value, then nothing more is written at the end.
 output_finishes : (printing : Printing) (trees : List Tree) → FinishesRun declared_types (work_by printing) trees (outputs nothing_output)
 output_finishes (printings.Report r query) trees = refl
 output_finishes printings.Dump trees = refl
@@ -236,7 +236,7 @@ ends_compared most taken output values h end out (Err (aborts.Exit exit)) (inr m
 ends_compared most taken output values h end out (Err aborts.WriteFault) (final, finishes, part) =
     (final, ends_clean (value_tasks.Compare most) taken output values h end (outputs final) finishes, part)
 
--- The values are edited: a line may edit none of them.
+-- If values are edited, then a line that edits none of the values ends the run.
 ends_edited : (e : Edits) (most : ℕ) (taken : List ℕ) (output : List Output) (values : Values) (h : HasRead (value_tasks.Edit e most) values taken output) → EndsInput {U = Unit {0}} most h.prefix (Ok tt) → (o : ByteState)
     (result : Result Bool Error) → EndsScript e h.trees values.ok result → Ends (value_tasks.Edit e most) taken output values h (change o o) result
 ends_edited e most taken output values h end o (Ok ok) (finishes, same) = silent_end (value_tasks.Edit e most) taken output values h end finishes o ok same
@@ -245,7 +245,7 @@ ends_edited e most taken output values h end o (Err (aborts.Exit exit)) (inl fin
     (inl (ends_clean (value_tasks.Edit e most) taken output values h end (outcome.exits exit) finishes), writes_nothing o)
 ends_edited e most taken output values h end o (Err aborts.WriteFault) never = absurd never
 
--- The same, if an equation gives the operation.
+-- Lemmas on the end of the input, if an equation gives the operation.
 module _ (w : ValueTask) (taken : List ℕ) (output : List Output) (values : Values) (h : HasRead w values taken output) where
   pub ends_as_output : (printing : Printing) (most : ℕ) → w ≡ value_tasks.Print printing most → EndsInput {U = Unit {0}} (word_limit w) h.prefix (Ok tt) → (o : ByteState) → Ends w taken output values h (change o o) (Ok values.ok)
   ends_as_output printing most is e o =
@@ -289,7 +289,7 @@ module _ (w : ValueTask) (taken : List ℕ) (output : List Output) (values : Val
   abbrev after : Values
   after = record values { reader = reader }
 
-  -- The current bytes complete the value.
+  -- If the current bytes complete the value, then the reader has taken all bytes of the value.
   abbrev pub whole_read : MayTake w (length h.trees) → fed.done ≡ true → IsValueRead w after (taken ++ take fed.taken rest) output
   whole_read may done = record {
     ready = h.ready;
@@ -321,7 +321,7 @@ module _ (w : ValueTask) (taken : List ℕ) (output : List Output) (values : Val
         absurd (not_whole (word_limit w) h.prefix whole.0 h.leads.bytes h.is_prefix (subst (λ b. EncodedUnder (word_limit w) b whole.0) none whole.1))
     some (suc n) e = omega arith
 
-  -- All current bytes are taken, and the value is not complete.
+  -- If the value is not complete, then the reader has taken all current bytes.
   pub prefix_read : MayTake w (length h.trees) → fed.done ≡ false → HasRead w after (taken ++ take fed.taken rest) (output ++ [])
   prefix_read may not_done =
       let more = f.more not_done in
@@ -341,7 +341,8 @@ module _ (w : ValueTask) (taken : List ℕ) (output : List Output) (values : Val
         kept = h.kept;
       })
 
--- A value that was read completely, and its output.
+-- If a value was read completely, then the output of the value follows the output of the earlier
+-- values.
 pub value_output : (w : ValueTask) (taken : List ℕ) (output : List Output) (values : Values) (v : IsValueRead w values taken output) (tree : Tree) → EncodedUnder (word_limit w) v.whole tree
     → (next : Output) → Outputs declared_types (work_of w) v.trees tree next → PrintFirst declared_types (task_of w) taken (v.trees ++ tree ∷ []) (output ++ next ∷ []) []
 value_output w taken output values v tree encoded next it_outputs =
@@ -357,12 +358,12 @@ as_many w earlier (tree ∷ trees) (s ∷ output) all = let more = as_many w (ea
 pub output_count : (w : ValueTask) (taken : List ℕ) (output : List Output) (values : Values) → HasRead w values taken output → values.count ≡ length output
 output_count w taken output values h = h.counted ∙ as_many w [] h.trees output h.first.all_print
 
--- The output of one more value is the last one.
+-- If one more output is appended, then `last_ok` is the flag of the appended output.
 pub last_ok-snoc : (ok : Bool) (output : List Output) (next : Output) → last_ok ok (output ++ next ∷ []) ≡ next.ok
 last_ok-snoc ok [] next = refl
 last_ok-snoc ok (s ∷ output) next = last_ok-snoc s.ok output next
 
--- The reader waits for the next value.
+-- If the output of a value was written, then the reader waits for the next value.
 pub value_written : (w : ValueTask) (taken : List ℕ) (output : List Output) (values : Values) (v : IsValueRead w values taken output) (tree : Tree) → EncodedUnder (word_limit w) v.whole tree
     → (next : Output) → Outputs declared_types (work_of w) v.trees tree next → (reader : Reader) → Leads (word_limit w) [] reader → (ok : Bool) → ok ≡ (values.ok && next.ok) → (last : Bool) → last ≡ next.ok
     → (kept : Vec Value Global) (earlier : Vec Earlier Global) → IsKept w (v.trees ++ tree ∷ []) kept.items earlier.items → (line : Vec ℕ Global)
@@ -387,7 +388,7 @@ zip_push [] (t ∷ trees) value tree are is = absurd are
 zip_push (v ∷ kept) [] value tree are is = absurd are
 zip_push (v ∷ kept) (t ∷ trees) value tree are is = (are.0, zip_push kept trees value tree are.1 is)
 
--- The value is kept.
+-- If values are compared and a value is kept, then the reader waits for the next value.
 pub value_kept : (most : ℕ) (taken : List ℕ) (output : List Output) (values : Values) (v : IsValueRead (value_tasks.Compare most) values taken output) (value : Value) (f : Finishes most v.whole value)
     → (kept : Vec Value Global) → kept.items ≡ values.kept.items ++ value ∷ [] → (reader : Reader) → Leads most [] reader
     → HasRead (value_tasks.Compare most) (record { reader = reader; ok = values.ok; last = true; count = values.count + 1; kept = kept; earlier = values.earlier; line = values.line }) taken (output ++ nothing_output ∷ [])
@@ -398,7 +399,7 @@ value_kept most taken output values v value f kept same reader leads =
     (subst (λ k. AllZip IsValueOf k (v.trees ++ f.tree ∷ [])) (sym same) (zip_push values.kept.items v.trees value f.tree v.kept.0 f.is_value), omega (arith, few, size)))
     values.line
 
--- The same, if an equation gives the operation.
+-- If an equation states that values are compared, then a kept value satisfies `WritesNext`.
 pub kept_next : (w : ValueTask) (most : ℕ) (taken : List ℕ) (output : List Output) (values : Values) → IsValueRead w values taken output → w ≡ value_tasks.Compare most → (new : Values) (o : ByteState)
     → (IsValueRead (value_tasks.Compare most) values taken output → HasRead (value_tasks.Compare most) new taken (output ++ nothing_output ∷ [])) → (next : Output) × HasRead w new taken (output ++ next ∷ []) × Writes (change o o) next.text
 kept_next w most taken output values v is new o kept =
@@ -425,7 +426,7 @@ room_for_one w taken output values v short =
     let counted = v.counted in
     let some = v.some in omega (arith, fewer, short, counted, some)
 
--- The run ends at these bytes after the values, or memory ran out.
+-- The run ends at the bytes after the values, or memory ran out.
 abbrev ExitsIn : ValueTask → List Tree → List ℕ → Exit → Type 0
 ExitsIn w trees rest exit = ExitsHere declared_types (task_of w) (items_of trees) rest exit ⊎ (exit ≡ out_of_memory)
 
@@ -457,7 +458,7 @@ full_exits (value_tasks.Compare most) trees prefix rest full some =
     let any : prefix ++ rest ≡ [] → ⊥ = λ none. let e : length (prefix ++ rest) ≡ 0 = ap length none in let size = length-append prefix rest in omega (arith, e, size, some) in
     inl (record { trees = trees; are = refl; why = inl (full, any, refl) })
 
--- A error in the current bytes.
+-- Lemmas on an error in the current bytes.
 module _ (w : ValueTask) (taken : List ℕ) (output : List Output) (values : Values) (h : HasRead w values taken output) (rest : List ℕ) where
   abbrev pub Aborts : Change ByteState → Error → Type 0
   Aborts out error = AbortsIn (commands declared_types) (task_of w) taken rest output out error

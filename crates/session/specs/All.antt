@@ -1,5 +1,5 @@
--- All commands as one command set: the commands on values, and the other commands, each a set of
--- its own. To add a command set, add it here.
+-- All commands as one command set: the commands on values, and the other commands, each as a set of
+-- one command. A new command set is added in this file.
 use Rattle.std.specs.Prelude.{ℕ, ◌⊎◌, List, Option}
 use Rattle.cert_format.specs.declared.section.Section.{Section}
 use Rattle.cli_spec.specs.CommandLine.{certify, scan, searched_by}
@@ -25,8 +25,8 @@ use Rattle.opt_skip_only.specs.only_spec.OnlyCommand.{only_command}
 pub use Rattle.cmd_verify.specs.command.Reading.{on_certificates, on_certificates_after}
 pub use Rattle.cmd_certify.specs.command.Certified.{on_certified, on_certified_after}
 
--- The commands on values, also with `--only` and `--skip`, and the commands `build`, `scan` and
--- `gen`.
+-- The command sets: the commands on values without options, with `--only`, and with `--only` and
+-- `--skip`, and the commands `build`, `scan` and `gen`.
 abbrev pub on_values : Commands (Task TypeOver ScriptLine)
 on_values = commands declared_types
 
@@ -106,13 +106,13 @@ abbrev pub IsOfMade : Request → Type 0
 IsOfMade (own (generate number count type)) = Unit {0}
 IsOfMade request = ⊥
 
--- Every request of the arguments belongs to this set. This also holds if the arguments request
--- nothing.
+-- Every request of the arguments belongs to the set `IsOf`. If the arguments request nothing, the
+-- statement holds.
 abbrev pub AskOnly : (Request → Type 0) → List (List ℕ) → Type 0
 AskOnly IsOf arguments = (request : Request) → Asks arguments request → IsOf request
 
--- For such arguments, an `Account` by the set is one by the whole set, and the specification of a
--- run by the whole set implies the specification by the set.
+-- Suppose the arguments request only commands of `c`. Then an `Account` by `c` is an `Account` by
+-- `whole`, and the specification of a run by `whole` implies the specification by `c`.
 pub record IsPartOf {A B : Type 0} (whole : Commands B) (c : Commands A) (IsOf : Request → Type 0)
     : Type 0 where
   pub account : (arguments : List (List ℕ)) (call : Call) → AskOnly IsOf arguments

@@ -1,4 +1,4 @@
--- The arguments of a command, after the type and the script were read.
+-- The arguments of a command, if the type and the script were read.
 use Rattle.std.specs.Prelude.{ℕ, Bool, List, Ok}
 use Rattle.cli_spec.specs.declared.read_options.ReadOptions.{ReadOptions}
 use Rattle.cli_spec.specs.Outcome.{Found, AskedType, Query}
@@ -9,7 +9,7 @@ use Rattle.run_spec.specs.runs.Given.{Fetched}
 use Rattle.session.specs.Reporting.{AsksToReport, AsksToEdit}
 use Rattle.run_types.specs.Types.{GivesType, GivesScript}
 
--- FILE and TYPE gave this type, and the arguments request this report.
+-- FILE and TYPE gave the type `r`, and the arguments request the report `query`.
 pub record AsksToPrint (arguments : List (List ℕ)) (r : Prepared) (query : Query)
     (reading : ReadOptions) (files : Change FilesState) : Type 0 where
   pub file : List ℕ
@@ -19,7 +19,7 @@ pub record AsksToPrint (arguments : List (List ℕ)) (r : Prepared) (query : Que
   pub fetched : Fetched files file found
   pub gives : GivesType file type found (Ok r)
 
--- FILE and TYPE gave this type, and SCRIPT gave these lines.
+-- FILE and TYPE gave the type `r`, and SCRIPT gave the lines of `script`.
 pub record AsksForLines (arguments : List (List ℕ)) (r : Prepared) (script : Script) (compat : Bool)
     (reading : ReadOptions) (files : Change FilesState) : Type 0 where
   pub name : List ℕ

@@ -16,8 +16,8 @@ use Rattle.run_spec.specs.runs.Call.{Call}
 use Rattle.run_types.specs.Language.{TypeOver, declared_types}
 use Rattle.run_spec.specs.runs.Environment.{IsHonest}
 
--- The canonical bytes of the tree respect the limit, its value has the type, and with `--compat32`
--- a 32-bit reader can hold it.
+-- The canonical bytes of the tree respect the limit, and the tree's value has the type. If `compat`
+-- is true, a 32-bit reader can hold the value.
 pub record IsCanonical (t : TypeOver) (compat : Bool) (limit : ℕ) (tree : Tree) : Type 0 where
   pub encoded : EncodedUnder limit (canon tree) tree
   pub has : HasType (declared_shapes t.decls) (objects_of tree 0) (root tree 0) t.type
@@ -50,8 +50,8 @@ pub record WritesInput (call : Call) (input : List ℕ) : Type 0 where
   pub err : Writes call.err []
   pub status : call.status ≡ AllOk
 
--- If the environment is honest and memory does not run out, then such an input is written
--- unchanged.
+-- If the environment is honest, memory does not run out, and an empty SCRIPT is applied to
+-- canonical input, then the output equals the input.
 abbrev pub LeavesCanonical : List (List ℕ) → Call → Type 0
 LeavesCanonical arguments call =
     (input : List ℕ) (files : List File) → IsHonest call input files → call.status ≢ Memory

@@ -11,12 +11,12 @@ use Rattle.text_path.specs.declared.edits.ScriptLine.{ScriptLine}
 use Rattle.marshal_read.specs.declared.value.Value.{Value}
 use Rattle.session.specs.declared.earlier.Earlier.{Earlier}
 
--- The value with this number, after its lines.
+-- The kept value is the value with number `number`, edited by its lines.
 pub record IsMade (others : List Other) (number : ℕ) (value : Value) : Type 0 where
   pub valid : IsValue (length value.heap) value.root
   pub same : slice_get others number ≡ Some (value.heap, value.root)
 
--- All kept values are values after their lines.
+-- Each kept value is an input value that was edited by its lines.
 abbrev pub AreMade : List Other → List Earlier → Type 0
 AreMade others kept = All (λ e. IfSome e.value (λ value. IsMade others e.number value)) kept
 
@@ -24,11 +24,11 @@ AreMade others kept = All (λ e. IfSome e.value (λ value. IsMade others e.numbe
 abbrev pub AreInOrder : List Earlier → Type 0
 AreInOrder kept = AllPairs (λ e later. e.number < later.number) kept
 
--- The value with this number is kept.
+-- The value with number `number` is kept.
 abbrev pub IsThere : List Earlier → ℕ → Type 0
 IsThere kept number = Any (λ e. (e.number ≡ number) × IsSome e.value) kept
 
--- If the action copies from a value, then that value is kept.
+-- If the action copies from a value, then the source value is kept.
 pub record IsServed (kept : List Earlier) (action : Action) : Type 0 where
   pub in_order : AreInOrder kept
   pub there : (number : ℕ) → CopiesFrom number action → IsThere kept number
@@ -37,14 +37,15 @@ pub record IsServed (kept : List Earlier) (action : Action) : Type 0 where
 abbrev pub AreServed : List Earlier → List ScriptLine → Type 0
 AreServed kept lines = All (λ line. IsServed kept line.action) lines
 
--- The entry of one of the first `n` values, with the number of the last value into which a line
--- copies from it. After that value, the entry no longer keeps its value.
+-- The entry of one of the first `n` values. The entry states the last value into which a line
+-- copies from its value. After the last copy, the entry no longer keeps its value.
 pub record IsEntry (lines : List ScriptLine) (n : ℕ) (e : Earlier) : Type 0 where
   pub before : e.number < n
   pub last : IsLastUse lines e.number e.last
   pub used : IsSome e.value → n ≤ e.last
 
--- Of the first `n` values, exactly those are kept from which a line of a later value copies.
+-- Among the first `n` values, exactly the values from which a line of a later value copies are
+-- kept.
 pub record AreEarlier (lines : List ScriptLine) (n : ℕ) (kept : List Earlier) : Type 0 where
   pub in_order : AreInOrder kept
   pub entries : All (IsEntry lines n) kept
@@ -57,7 +58,8 @@ pub record AreEarlier (lines : List ScriptLine) (n : ℕ) (kept : List Earlier) 
 abbrev pub IsUsedUpTo : List ScriptLine → ℕ → ℕ → Type 0
 IsUsedUpTo lines number last = All (λ line. CopiesFrom number line.action → line.value ≤ last) lines
 
--- If a kept value is not copied into a later value, then one of these lines copies from it.
+-- If a kept value is not copied into a value after `number`, then one of the lines `lines` copies
+-- from the kept value.
 abbrev pub AreNamed : ℕ → List ScriptLine → List Earlier → Type 0
 AreNamed number lines kept =
     All
@@ -69,11 +71,12 @@ AreNamed number lines kept =
 abbrev pub without : Earlier → Earlier
 without e = record { number = e.number; last = e.last; value = None }
 
--- After the value with this number, an entry is freed if it is not copied into a later value.
+-- If an entry's value is not copied into a value after `number`, the entry is freed.
 abbrev pub after_value : ℕ → Earlier → Earlier
 after_value number e = if nat_lt number e.last then e else without e
 
--- The same, if the entry is the one that is copied from.
+-- If an entry has the number `from` and its value is not copied into a value after `number`, the
+-- entry is freed.
 abbrev pub after_copy : ℕ → ℕ → Earlier → Earlier
 after_copy from number e = if nat_eq e.number from then after_value number e else e
 
@@ -84,6 +87,7 @@ after_action (actions.Graft path from source) number e = after_copy from number 
 abbrev pub all_after : ℕ → List Earlier → List Earlier
 all_after number kept = map (after_value number) kept
 
--- One more entry, if a part of its value is copied into a later value.
+-- The kept entries, extended by `made` if a part of the value of `made` is copied into a later
+-- value.
 abbrev pub with_made : List Earlier → Earlier → List Earlier
 with_made kept made = if nat_lt made.number made.last then kept ++ made ∷ [] else kept

@@ -32,12 +32,13 @@ use Rattle.run_types.specs.Checked.{OrMemory}
 
 -- ---- lines
 
--- The result of lines on a value at the type, after these earlier values.
+-- The result of script lines on a value at the type `r`, after the earlier values `others`.
 abbrev pub Edit : Prepared → List Other → List ScriptLine → List Obj → Val → Edited Ty → Type 0
 Edit r others lines graph v all =
     AreEdited (shape r.decls) (names_of r.decls) (Equal r.decls) r.ty others lines graph v all
 
--- A line, of value `k` or of another one, followed by further lines.
+-- A line was applied to a value: further lines on the new value give the result of the line and the
+-- further lines on the old value. A line for a value other than `k` changes nothing.
 pub record EditsOn (r : Prepared) (others : List Other) (k : ℕ) (line : ScriptLine)
     (old new : Value) : Type 0 where
   pub valid : IsValue (length new.heap) new.root
@@ -45,14 +46,14 @@ pub record EditsOn (r : Prepared) (others : List Other) (k : ℕ) (line : Script
       → Edit r others (lines_of_value k rest) new.heap new.root all
       → Edit r others (lines_of_value k (line ∷ rest)) old.heap old.root all
 
--- The exit reason for a line with this number that is refused for this reason. Without a reason
--- there is no exit reason.
+-- The exit reason for line `number`, which is refused for a reason. If there is no reason, there is
+-- no exit reason.
 abbrev pub IsReasonExit : Prepared → ℕ → Option (Reason ℕ) → Exit → Type 0
 IsReasonExit r number None exit = ⊥
 IsReasonExit r number (Some reason) exit =
     exit ≡ script_line number (reason_text (text_at r.table) (position_on r.lines number) reason)
 
--- The line is refused, whatever lines follow it.
+-- The line is refused with the exit reason `exit`, whatever lines follow the line.
 abbrev pub IsRefusedLine : Prepared → List Other → ℕ → ScriptLine → Value → Exit → Type 0
 IsRefusedLine r others k line old exit =
     (reason : Reason Ty)
@@ -90,7 +91,7 @@ EditsLines r others k lines old new (Err aborts.WriteFault) = ⊥
 
 -- ---- bytes
 
--- The output for value `k`, after these earlier values.
+-- The output for value `k`, after the earlier values `others`.
 abbrev pub AnswersOf : Edits → List Other → ℕ → List Obj → Val → Result (List ℕ) Unedited → Type 0
 AnswersOf e others k graph v answer =
     IsBytesLine (type_over e.requested.now) others (lines_of_value k e.script.now.lines) e.compat

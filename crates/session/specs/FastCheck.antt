@@ -34,12 +34,12 @@ use Rattle.session.specs.declared.verdict.Printing.TheVariants as printings
 abbrev pub yes : Output
 yes = record { text = line (codes "yes"); ok = true }
 
--- The output for a value that lacks the type: this line with its line feed.
+-- The output for a value that lacks the type: a line with its line feed.
 abbrev pub no_in : List ℕ → Output
 no_in text = record { text = text; ok = false }
 
--- The first `n` bytes encode a value of at most `limit` 64-bit words, and this is the output for
--- its verdict.
+-- The first `n` bytes encode a value of at most `limit` 64-bit words, and `output` is the output
+-- for the value's verdict.
 pub record IsVerdictOn (r : Prepared) (limit n : ℕ) (bytes : List ℕ)
     (output : Output) : Type 0 where
   pub within : n ≤ length bytes
@@ -59,8 +59,8 @@ pub record IsVerdictNext (r : Prepared) (limit : ℕ) (old : StreamCheck) (chunk
   pub none : new.kept.items ≡ []
   pub stream_check : (table : Table) (limit' : ℕ) → IsStreamCheck table limit' new
 
--- The result of the streaming check on a chunk. It is the verdict on the value, with this text if
--- it is `no`. Or more bytes are needed, or the check is inconclusive.
+-- The result of the streaming check on a chunk: the verdict on the value, or that more bytes are
+-- needed, or that the check is inconclusive. If the verdict is `no`, `text` is the output.
 abbrev pub IsFastCheck : Prepared → ℕ → StreamCheck → List ℕ → StreamCheck → List ℕ → FastResult
     → Type 0
 IsFastCheck r limit old chunk new text (seen.Yes n) = IsVerdictNext r limit old chunk new n yes
@@ -71,7 +71,8 @@ IsFastCheck r limit old chunk new text seen.More =
 IsFastCheck r limit old chunk new text seen.Inconclusive =
     (new.kept.items ≡ old.kept.items) × IsStreamCheck (table_of r.table) limit new
 
--- The state after the bytes before the kept ones.
+-- The state of the output before the kept bytes were taken: `has` holds for the bytes before the
+-- kept bytes.
 abbrev pub Later : List ℕ → Has → Has
 Later kept has taken output = (before : List ℕ) × (taken ≡ before ++ kept) × has before output
 
@@ -79,7 +80,7 @@ Later kept has taken output = (before : List ℕ) × (taken ≡ before ++ kept) 
 abbrev pub verdict_value_task : Bor Prepared → ℕ → ValueTask
 verdict_value_task r limit = value_tasks.Print (printings.Report r queries.Verdict) limit
 
--- The reader waits for a value, and has taken no byte of it.
+-- The reader waits for a value, and has taken no byte of the value.
 abbrev pub IsBetween : Values → Type 0
 IsBetween values =
     (limit : ℕ) (taken : List ℕ) → Leads limit taken values.reader
@@ -87,8 +88,8 @@ IsBetween values =
 
 -- ---- a value that is written unchanged
 
--- The first `n` bytes encode a value of at most `limit` 64-bit words that has the type and each of
--- its closed instances, and they are its canonical bytes.
+-- The first `n` bytes are canonical, and encode a value of at most `limit` 64-bit words. The value
+-- has the type and each of the type's closed instances.
 pub record IsUnchanged (r : Prepared) (limit n : ℕ) (bytes : List ℕ) : Type 0 where
   pub within : n ≤ length bytes
   pub tree : Tree
@@ -105,8 +106,8 @@ pub record IsUnchangedNext (r : Prepared) (limit : ℕ) (chunk : List ℕ) (new 
   pub none : new.kept.items ≡ []
   pub stream_check : (table : Table) (limit' : ℕ) → IsStreamCheck table limit' new
 
--- The result of the streaming check on a chunk, if no bytes were kept before. The value is
--- unchanged, or more bytes are needed, or the check is inconclusive.
+-- The result of the streaming check on a chunk, if no bytes were kept before. The result is a value
+-- that can be written unchanged, or that more bytes are needed, or that the check is inconclusive.
 abbrev pub IsUnchangedFastCheck : Prepared → ℕ → List ℕ → StreamCheck → Unchanged → Type 0
 IsUnchangedFastCheck r limit chunk new (unchanged.Whole n) = IsUnchangedNext r limit chunk new n
 IsUnchangedFastCheck r limit chunk new unchanged.More =
@@ -114,7 +115,7 @@ IsUnchangedFastCheck r limit chunk new unchanged.More =
 IsUnchangedFastCheck r limit chunk new unchanged.Inconclusive =
     (new.kept.items ≡ []) × IsStreamCheck (table_of r.table) limit new
 
--- No line edits value `k`, none copies from it into a later value, and `compat` is false.
+-- No line edits value `k`, no line copies from value `k` into a later value, and `compat` is false.
 pub record IsLeft (e : Edits) (k : ℕ) : Type 0 where
   pub compat : e.compat ≡ false
   pub lines : lines_of_value k e.script.now.lines ≡ []

@@ -1,4 +1,4 @@
--- The output for a value, written.
+-- The output for a value and the writing of the output.
 use Rattle.std.specs.Prelude.{ℕ, ◌≡◌, Bool, List, [], Result, Ok, Err}
 use Rattle.cli_spec.specs.declared.exit.Exit.TheVariants.{Memory as out_of_memory}
 use Rattle.base_data.specs.declared.model.value.Val.{Val}
@@ -10,8 +10,8 @@ use Rattle.cli_errors.specs.declared.exit.Error.TheVariants as aborts
 use Rattle.session.specs.declared.verdict.Printing.{Printing}
 use Rattle.session.specs.Verdict.{IsOutputOf}
 
--- The text is written, and the result is whether the value is ok. Or memory ran out and nothing is
--- written. Or writing the output fails.
+-- If the result is `Ok`, the text is written, and the result states whether the value is ok. If the
+-- result is `Err`, memory ran out and nothing is written, or writing the output fails.
 abbrev pub WritesOutput : Printing → List Obj → Val → Change ByteState → Result Bool Error → Type 0
 WritesOutput printing graph root out (Ok ok) =
     (text : List ℕ) × IsOutputOf printing graph root text ok × Writes out text

@@ -12,8 +12,8 @@ use Rattle.session.specs.declared.verdict.Printing.TheVariants as printings
 use Rattle.session.specs.FastCheck.{IsBetween}
 use Rattle.session.specs.Values.{HasRead}
 
--- The streaming check keeps bytes only for verdicts and edits, and only of a value of which the
--- reader has taken none. They are a prefix of that value.
+-- The streaming check keeps bytes only for verdicts and edits. The kept bytes are a prefix of a
+-- value of which the reader has taken no byte.
 abbrev pub IsChecked : ValueTask → Values → StreamCheck → Type 0
 IsChecked (value_tasks.Print (printings.Report r queries.Verdict) limit) values stream_check =
     IsStreamCheck (table_of r.now.table) limit stream_check
@@ -23,7 +23,8 @@ IsChecked (value_tasks.Edit e limit) values stream_check =
     × ((stream_check.kept.items ≡ []) ⊎ IsBetween values)
 IsChecked value_task values stream_check = stream_check.kept.items ≡ []
 
--- All bytes except the kept ones were read, and this is the output for their values.
+-- All bytes except the kept bytes were read, and `output` is the output for the values of the bytes
+-- that were read.
 pub record HasTaken
     (value_task : ValueTask) (values : Values) (stream_check : StreamCheck) (taken : List ℕ)
     (output : List Output)

@@ -15,11 +15,11 @@ use Rattle.run_spec.specs.runs.Given.{Fetched}
 use Rattle.run_spec.specs.value_commands.Tasks.{HasPath}
 use Rattle.run_types.specs.Types.{GivesType}
 
--- Skipped bytes are not written.
+-- The bytes to be skipped by `--skip`, which are not written to the output.
 abbrev pub passed_in : ReadOptions → Passed
 passed_in reading = record { bytes = reading.skip; copied = false }
 
--- If there is a PATH, it is a path. The report uses FILE and TYPE.
+-- The arguments request a report with FILE and TYPE. If there is a PATH, the PATH is a valid path.
 pub record AsksToReport (arguments : List (List ℕ)) (name : List ℕ) (type : AskedType)
     (query : Query)
     (reading : ReadOptions) : Type 0 where
@@ -34,7 +34,7 @@ pub record AsksToReport (arguments : List (List ℕ)) (name : List ℕ) (type : 
       → ReportsAt declared_types found.file (name, type) query result
       → FindsWork declared_types found request result
 
--- FILE and TYPE gave this type, and SCRIPT is read next.
+-- FILE and TYPE gave the type `r`, and SCRIPT is read next.
 pub record AsksToEdit (arguments : List (List ℕ)) (r : Prepared) (script : List ℕ) (compat : Bool)
     (reading : ReadOptions) (files : Change FilesState) : Type 0 where
   pub file : List ℕ

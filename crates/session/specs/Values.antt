@@ -47,8 +47,8 @@ work_of (value_tasks.Print printing limit) = work_by printing
 work_of (value_tasks.Edit e limit) = edits_by e
 work_of (value_tasks.Compare limit) = compares
 
--- If values are checked, their table is that of the type. Script lines copy from values before the
--- edited ones.
+-- If values are checked, the table is the table of the type. Each script line copies from values
+-- before the edited value.
 abbrev pub IsReadyValueTask : ValueTask → Type 0
 IsReadyValueTask (value_tasks.Print printing limit) = IsReadyPrinting printing
 IsReadyValueTask (value_tasks.Edit e limit) = IsReady e.requested.now × AreInTime e.script.now.lines
@@ -60,13 +60,13 @@ task_of value_task = task (work_of value_task) (word_limit value_task)
 
 -- ---- between two calls on the input
 
--- After `n` values, any further byte ends the run.
+-- If `n` values were read, any further byte ends the run.
 abbrev pub IsFull : ValueTask → ℕ → Type 0
 IsFull (value_tasks.Print printing limit) n = ⊥
 IsFull (value_tasks.Edit e limit) n = ⊥
 IsFull (value_tasks.Compare limit) n = n ≡ 2
 
--- After `n` values, one more may follow.
+-- If `n` values were read, one more value may follow.
 abbrev pub MayTake : ValueTask → ℕ → Type 0
 MayTake (value_tasks.Print printing limit) n = Unit {0}
 MayTake (value_tasks.Edit e limit) n = Unit {0}
@@ -75,28 +75,29 @@ MayTake (value_tasks.Compare limit) n = n < 2
 abbrev pub AreValues : List Value → Type 0
 AreValues kept = All (λ v. IsValue (length v.heap) v.root) kept
 
--- The lines made these values from the trees, and those are kept from which later lines copy.
+-- The script lines edited the values of the trees, and the edited values from which later lines
+-- copy are kept.
 pub record HaveMade (e : Edits) (trees : List Tree) (earlier : List Earlier) : Type 0 where
   pub others : List Other
   pub done : AreDone (type_over e.requested.now) e.script.now.lines [] trees others
   pub kept : AreMade others earlier
   pub needed : AreEarlier e.script.now.lines (length trees) earlier
 
--- If values are compared, the values of the trees are kept. If they are edited, the results are
--- kept from which later lines copy.
+-- If values are compared, the values of the trees are kept. If values are edited, the results from
+-- which later lines copy are kept.
 abbrev pub IsKept : ValueTask → List Tree → List Value → List Earlier → Type 0
 IsKept (value_tasks.Print printing limit) trees kept earlier = Unit {0}
 IsKept (value_tasks.Edit e limit) trees kept earlier = HaveMade e trees earlier
 IsKept (value_tasks.Compare limit) trees kept earlier =
     AllZip IsValueOf kept trees × (length trees ≤ 2)
 
--- Whether the last value with output is ok. If there is no output, the given result.
+-- True if the last value with output is ok. If no value has output, the given result `ok`.
 abbrev pub last_ok : Bool → List Output → Bool
 last_ok ok [] = ok
 last_ok ok (output ∷ more) = last_ok output.ok more
 
--- The reader has taken the bytes after the complete values, which are a prefix of the next value,
--- and nothing ends the run. `output` is the output for the values.
+-- The reader has taken the bytes after the complete values, which are a prefix of the next value.
+-- Nothing ends the run, and `output` is the output for the complete values.
 pub record HasRead (value_task : ValueTask) (values : Values) (taken : List ℕ)
     (output : List Output) : Type 0 where
   pub ready : IsReadyValueTask value_task
@@ -112,7 +113,8 @@ pub record HasRead (value_task : ValueTask) (values : Values) (taken : List ℕ)
   pub last : values.last ≡ last_ok true output
   pub kept : IsKept value_task trees values.kept.items values.earlier.items
 
--- The same, if the reader has taken all bytes of the next value.
+-- The reader has taken all bytes of the next value, and `output` is the output for the values
+-- before the next value.
 pub record IsValueRead (value_task : ValueTask) (values : Values) (taken : List ℕ)
     (output : List Output)
     : Type 0 where
@@ -128,20 +130,21 @@ pub record IsValueRead (value_task : ValueTask) (values : Values) (taken : List 
   pub ok : values.ok ≡ all_ok output
   pub kept : IsKept value_task trees values.kept.items values.earlier.items
 
--- This is the output for the first values of the bytes.
+-- `output` is the output for the first values of the bytes.
 abbrev pub AreOutput : ValueTask → List ℕ → List Output → Type 0
 AreOutput value_task bytes output =
     (trees : List Tree) × (rest : List ℕ)
     × PrintFirst declared_types (task_of value_task) bytes trees output rest
 
--- The current value is kept.
+-- The current value is kept, or memory ran out.
 abbrev pub KeepsNext : {U : Type 0} → ℕ → List ℕ → List Output → Values → Result U Memory → Type 0
 KeepsNext limit taken output new (Ok unit) =
     HasRead (value_tasks.Compare limit) new taken (output ++ nothing_output ∷ [])
 KeepsNext limit taken output new (Err memory) = Unit {0}
 
--- The output for the current value is written, and the reader waits for the next value. Or the
--- value ends the run, or memory ran out, or writing the output fails.
+-- If the result is `Ok`, the output for the current value is written, and the reader waits for the
+-- next value. If the result is `Err`, the value ends the run, memory ran out, or writing the output
+-- fails.
 abbrev pub WritesNext : {U : Type 0} → ValueTask → List ℕ → List Output → List Tree → List ℕ
     → Change ByteState → Values → Result U Error → Type 0
 WritesNext value_task taken output trees whole out new (Ok unit) =
@@ -156,7 +159,8 @@ WritesNext value_task taken output trees whole out new (Err aborts.WriteFault) =
 
 -- ---- the end of the input
 
--- The output line of the comparison is written, and the result is whether it is ok.
+-- The output line of the comparison is written, and the result states whether the two values are
+-- isomorphic.
 abbrev pub WritesComparison : List Tree → Change ByteState → Result Bool Error → Type 0
 WritesComparison trees out (Ok ok) =
     (final : Output) × Finishes declared_types compares trees (outputs final) × (ok ≡ final.ok)
@@ -174,8 +178,8 @@ abbrev pub Compares : List Value → Change ByteState → Result Bool Error → 
 Compares kept out result =
     (trees : List Tree) → AllZip IsValueOf kept trees → WritesComparison trees out result
 
--- A line that edits none of the values ends the run, or memory ran out. Otherwise the result is
--- unchanged.
+-- If the result is `Ok`, the result is `ok`. If the result is `Err`, a line that edits none of the
+-- values ends the run, or memory ran out.
 abbrev pub EndsScript : Edits → List Tree → Bool → Result Bool Error → Type 0
 EndsScript e trees ok (Ok same) =
     Finishes declared_types (edits_by e) trees (outputs nothing_output) × (same ≡ ok)

@@ -39,8 +39,8 @@ fn build_over<S: Source, K: Sink, E: Sink>(
     )
 }
 
-/// Reads FILE and TYPE, and writes the bytes of the values that the lines denote. Returns the exit
-/// status.
+/// Reads FILE and TYPE, and writes the bytes of the values that the lines of the input denote.
+/// Returns the exit status.
 pub fn build<S: Source, O: Opener, K: Sink, E: Sink>(
     alloc: Global,
     file: &str,

@@ -111,7 +111,7 @@ type Input = CommandSum<ItemCommands, ScanCommand>;
 
 type All = CommandSum<Input, MadeCommand>;
 
-/// Proves that the set of all commands is lawful, and that its commands fetch their files in turns.
+/// Proves that the set of all commands is lawful, and that each command fetches its files in turns.
 pub fn all_commands_are_lawful()
     ensures lawful { AreLawful all_commands }
     ensures turns { AreInTurns all_commands }
@@ -217,7 +217,8 @@ pub fn all_commands_have_one_outcome()
     lawful_commands::<All>();
 }
 
-/// Proves the same for the commands on values, without `--skip` and `--only`.
+/// Proves that arguments, files and an input determine the outcome of a command on values, without
+/// `--skip` and `--only`.
 pub fn values_have_one_outcome()
     ensures { HaveOneOutcome on_values }
 {
@@ -225,8 +226,8 @@ pub fn values_have_one_outcome()
     commands_answer_once::<DeclaredTypes>();
 }
 
-/// Proves that each command set is a part of the whole set, for arguments that request only its own
-/// commands.
+/// Proves that each command set is a part of the whole set, for arguments that request only
+/// commands of the part.
 pub fn all_commands_have_parts()
     ensures values { IsPart on_values_after IsOfValues }
     ensures texts { IsPart on_texts IsOfTexts }

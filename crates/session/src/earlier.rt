@@ -12,16 +12,16 @@ use marshal_read::{Reader, Value};
 use std::alloc::Global;
 use text_path::{Action, Script};
 
-/// An earlier value after its script lines. `value` is `None` once it is no longer needed.
+/// An earlier value after its script lines. `value` is `None` if no later line needs the value.
 #[derive(Drop)]
 pub struct Earlier {
     pub number: u64,
-    /// The number of the last value into which a part of this value is copied.
+    /// The number of the last value into which a part of the earlier value is copied.
     pub last: u64,
     pub value: Option<Value>,
 }
 
-/// Returns the earlier value with this number, by binary search.
+/// Returns the earlier value with number `number`, by binary search.
 pub fn earlier_value(kept: &[Earlier], number: u64) -> &Value
     requires order { AreInOrder kept.now }
     requires there { IsThere kept.now number }
@@ -34,8 +34,8 @@ pub fn earlier_value(kept: &[Earlier], number: u64) -> &Value
     }
 }
 
-/// Reserves memory for the value with this number, if a part of it is copied into a later value.
-/// `last` is the number of the last such value.
+/// Reserves memory for the value with number `number`, if a part of the value is copied into a
+/// later value. `last` is the number of the last value into which a part is copied.
 pub fn make_room(kept: &mut Vec<Earlier>, number: u64, last: u64) -> Result<(), Memory>
     ensures items { kept.new.items ≡ kept.old.items }
     ensures room { OnOk result (number < last → vec_len kept.new < vec_capacity kept.new) }
@@ -46,7 +46,7 @@ pub fn make_room(kept: &mut Vec<Earlier>, number: u64, last: u64) -> Result<(), 
     Ok(kept.reserve(1)?)
 }
 
-/// Appends a value. The memory must be reserved.
+/// Appends a value to the kept values. The caller must have reserved memory for the value.
 fn keep_made(kept: &mut Vec<Earlier>, made: Earlier)
     requires { vec_len kept.old < vec_capacity kept.old }
     ensures { kept.new.items ≡ kept.old.items ++ made ∷ [] }
@@ -54,7 +54,7 @@ fn keep_made(kept: &mut Vec<Earlier>, made: Earlier)
     let _pushed = kept.push(made);
 }
 
-/// Frees the value if it has the number `from`, and no part of it is copied into a value after
+/// Frees the value if its number is `from`, and no part of the value is copied into a value after
 /// `number`.
 fn let_go(made: &mut Earlier, from: u64, number: u64)
     ensures { made.new ≡ after_copy from number made.old }
@@ -68,7 +68,8 @@ fn let_go(made: &mut Earlier, from: u64, number: u64)
     made.value = None;
 }
 
-/// Does the same for the value with the number `from`, which it finds by binary search.
+/// Finds the value with the number `from` by binary search. If no part of the value is copied into
+/// a value after `number`, frees the value.
 fn let_go_of(kept: &mut [Earlier], from: u64, number: u64)
     requires { AreInOrder kept.old }
     ensures { kept.new ≡ map (λ made. after_copy from number made) kept.old }
@@ -79,7 +80,8 @@ fn let_go_of(kept: &mut [Earlier], from: u64, number: u64)
     }
 }
 
-/// Does the same for the value from which a line of value `number` copies, if it copies.
+/// If a line of value `number` copies from a value, and no part of this source is copied into a
+/// value after `number`, frees the source.
 fn let_go_by(kept: &mut [Earlier], action: &Action, number: u64)
     requires { AreInOrder kept.old }
     ensures { kept.new ≡ map (after_action action.now number) kept.old }
@@ -104,8 +106,8 @@ fn drop_used(kept: &mut [Earlier], script: &Script, number: u64)
 }
 
 /// Cleans up after value `number` was edited. Frees the values from which no later line copies, and
-/// keeps this one if a part of it is copied into a later value. Returns a reader for the next
-/// value, which reuses the memory of this one unless it is kept.
+/// keeps value `number` if a part of it is copied into a later value. Returns a reader for the next
+/// value. If value `number` is not kept, the reader reuses the memory of value `number`.
 pub fn next_reader(
     alloc: Global,
     limit: u64,

@@ -38,8 +38,8 @@ impl Edits<'_> {
     ghost use Rattle.std.specs.Bool.{OnTrue};
     ghost use Rattle.session.specs.FastCheck.{IsLeft};
 
-    /// Returns true if no line edits the value with this number or copies from it into a later
-    /// value, and `compat` is false. Then the value's canonical bytes are written.
+    /// Returns true if the canonical bytes of the value with number `number` can be written without
+    /// editing. No line may edit the value or copy from the value, and `compat` must be false.
     pub fn leave(self, number: u64) -> bool
         ensures { OnTrue result (IsLeft self.entry number) }
     {
@@ -57,8 +57,8 @@ impl Edits<'_> {
     }
 }
 
-/// Checks the value with this number against the type, edits it by its lines, and writes its bytes.
-/// Lines may copy parts of the earlier values in `kept`.
+/// Checks the value with number `number` against the type, edits the value by its lines, and writes
+/// the value's bytes. Lines may copy parts of the earlier values in `kept`.
 pub fn edit_value<K: Sink>(
     alloc: Global,
     value: &mut Value,
@@ -91,7 +91,7 @@ pub fn edit_value<K: Sink>(
     write_bytes(alloc, &new, number, edits.compat, out)
 }
 
-/// Edits the value with this number by its lines of the script, in order.
+/// Edits the value with number `number` by its lines of the script, in order.
 fn edit_by_lines(
     alloc: Global,
     value: &mut Value,
@@ -113,7 +113,7 @@ fn edit_by_lines(
     Ok(())
 }
 
-/// Edits the value with this number by a line, if the line edits this value.
+/// If a line edits the value with number `number`, edits the value by the line.
 fn edit_by_line(
     alloc: Global,
     value: &mut Value,
@@ -214,8 +214,8 @@ fn is_memory_in(fault: LiteralFault) -> bool
     }
 }
 
-/// Returns the line number of the first line whose value number is at least `count`, if there is
-/// one.
+/// Returns the line number of the first line whose value number is at least `count`, or `None` if
+/// there is no such line.
 pub fn line_past(lines: &[ScriptLine], count: u64) -> Option<usize>
     ensures { IsPast lines.now count result }
 {

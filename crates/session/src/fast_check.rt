@@ -1,6 +1,6 @@
-//! Fast paths by the streaming check, which reads a value's bytes without building a heap. It
-//! reports the verdict on a value. It also recognizes a value that has its type and whose bytes are
-//! exactly those that the runtime writes for it.
+//! Fast paths by the streaming check, which reads a value's bytes without building a heap. The
+//! streaming check reports the verdict on a value. The streaming check also recognizes a value that
+//! has its type and whose bytes are exactly the bytes that the runtime writes for the value.
 
 ghost use Rattle.std.specs.Bool.{OnTrue};
 ghost use Rattle.std.specs.Prelude.{◌≡◌, ◌≤◌, ◌<◌, ℕ, List, [], length, take, IfOk, OnOk};
@@ -18,32 +18,38 @@ use run_types::{Requested, write_missed_no};
 use std::alloc::Global;
 use types_theory::table::tables_decide;
 
-/// After this many useless streaming checks in a row, most values are not checked in this way.
+/// The number of useless streaming checks in a row after which most values are read without a
+/// streaming check.
 const USELESS: u8 = 8;
 
-/// The number of values that are then read without a streaming check before the next one is
-/// checked.
+/// The number of values that are read without a streaming check between two values that are
+/// checked, after `USELESS` useless streaming checks.
 const SKIPPED: u8 = 64;
 
 /// The number of useless streaming checks in a row, and the number of values still to be read
-/// without one.
+/// without a streaming check. `mismatched` is true if the streaming check of the current value was
+/// inconclusive after it found a type mismatch.
 #[derive(Clone, Copy)]
 pub struct CheckBackoff {
+    pub mismatched: bool,
     useless: u8,
     skipped: u8,
 }
 
 impl CheckBackoff {
-    /// Creates the initial counters. The first values are checked.
+    /// Creates the initial counters, by which the first values are checked.
     pub fn new() -> CheckBackoff {
         CheckBackoff {
+            mismatched: false,
             useless: 0,
             skipped: 0,
         }
     }
 
-    /// Returns true if the next value should be checked. Otherwise counts the skipped value.
+    /// Returns true if the next value should be checked. If the next value should not be checked,
+    /// counts the value as skipped.
     pub fn is_due(&mut self) -> bool {
+        self.mismatched = false;
         if self.skipped == 0 {
             return true;
         }
@@ -70,10 +76,11 @@ impl CheckBackoff {
 /// The result of a streaming check of the current value.
 #[derive(Clone, Copy)]
 pub enum FastResult {
-    /// The first bytes of the chunk, this many, complete the value, and its verdict is `yes`.
+    /// The first bytes of the chunk complete the value, and the value's verdict is `yes`. The
+    /// number is the number of these bytes.
     Yes(usize),
-    /// The first bytes of the chunk, this many, complete the value. Its verdict is `no`, and its
-    /// line is in the line buffer.
+    /// The first bytes of the chunk complete the value, the value's verdict is `no`, and the line
+    /// is in the line buffer. The number is the number of these bytes.
     No(usize),
     /// All bytes of the chunk were taken, and the value needs more bytes.
     More,
@@ -81,7 +88,7 @@ pub enum FastResult {
     Inconclusive,
 }
 
-/// Replaces the line by that of a value with exactly one type mismatch.
+/// Replaces `line` by the line of a value with exactly one type mismatch.
 #[inline(never)]
 fn write_missed_line(
     line: &mut Vec<u8>,
@@ -132,8 +139,8 @@ pub fn fast_check<'a>(
     }
 }
 
-/// Returns true if the first `n` bytes are exactly what the runtime writes for the value that they
-/// encode.
+/// Returns true only if the first `n` bytes are exactly the bytes that the runtime writes for the
+/// value that the `n` bytes encode.
 fn is_canonical_prefix(bytes: &[u8], n: usize) -> bool
     requires { n ≤ length bytes.now }
     ensures { OnTrue result (IsCanonicalBytes (take n bytes.now)) }
@@ -144,8 +151,8 @@ fn is_canonical_prefix(bytes: &[u8], n: usize) -> bool
 /// The result of a streaming check of a value that could be written unchanged.
 #[derive(Clone, Copy)]
 pub enum Unchanged {
-    /// The first bytes of the chunk, this many, are a value that has the type, and exactly what the
-    /// runtime writes for it.
+    /// The first bytes of the chunk are a value that has the type, and exactly the bytes that the
+    /// runtime writes for the value. The number is the number of these bytes.
     Whole(usize),
     /// All bytes of the chunk were taken, and the value needs more bytes.
     More,
@@ -153,8 +160,8 @@ pub enum Unchanged {
     Inconclusive,
 }
 
-/// Checks a value that begins with this chunk: whether it lies completely in the chunk, has the
-/// type, and consists of exactly the bytes that the runtime writes for it.
+/// Checks a value that begins with a chunk. Reports whether the value lies completely in the chunk,
+/// has the type, and consists of exactly the bytes that the runtime writes for the value.
 pub fn fast_check_unchanged<'a>(
     alloc: Global,
     requested: &'a Requested,

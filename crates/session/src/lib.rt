@@ -1,25 +1,25 @@
 //! The top call `run`: from arguments, input and files to output, error output and exit status.
 //!
-//! It owns the set of all commands of the program (`all_commands`), the commands on values in code
-//! (`check`, `show`, `get`, `edit`, `same` and others), and the way from a request to the code
-//! that serves it. For `check`, and for values that no line of an `edit` script concerns, the
-//! bytes are first checked without a heap while they arrive; if that is inconclusive, the value is
-//! read into a heap.
+//! The crate owns the set of all commands of the program (`all_commands`). The crate also owns the
+//! commands on values in code (`check`, `show`, `get`, `edit`, `same` and others), and the way from
+//! a request to its code. For `check`, and for values that no line of an `edit` script concerns,
+//! the bytes are first checked without a heap while they arrive. If the check without a heap is
+//! inconclusive, the value is read into a heap.
 //!
 //! Promises: `run` has nine clauses. `run_spec`: the call satisfies `RunSpec` for all commands: an
 //! account of what was read and written, the outcome of an honest call, the status, and failed
 //! calls. `environment`: what the statuses of the environment mean. `causes`: for arguments that
-//! ask for a command on values, each status has its cause by exact tables; `causes_of_texts`,
-//! `causes_of_certificates`, `causes_of_sections`, `causes_of_positions` and `causes_of_made` say
-//! so of the other commands. `canonical`: an honest call of `edit` with an empty script writes
-//! canonical input, whose values have the type, back byte for byte (`LeavesCanonical`).
-//! `all_commands_are_lawful`: all commands together are lawful. `all_commands_have_one_outcome`:
-//! arguments, files and input have one outcome.
+//! ask for a command on values, each status has its cause by exact tables. `causes_of_texts`,
+//! `causes_of_certificates`, `causes_of_sections`, `causes_of_positions` and `causes_of_made`: each
+//! status of a command of another kind has its cause by exact tables. `canonical`: if the input is
+//! canonical and its values have the type, an honest call of `edit` with an empty script outputs
+//! the input unchanged (`LeavesCanonical`). `all_commands_are_lawful`: all commands together are
+//! lawful. `all_commands_have_one_outcome`: arguments, files and input have one outcome.
 //!
-//! Leaves out: the real input, files and outputs (`omarshal`), the loop (`run_loop`), the commands
-//! `build`, `gen`, `verify`, `check --cert` and `scan` in detail (`cmd_build`, `cmd_gen`,
-//! `cmd_verify`, `cmd_certify`, `cmd_scan`), and theorems about two calls in sequence
-//! (`thm_roundtrip`, `thm_certificates`). Time and memory are not promised.
+//! Leaves out: the real input, files and outputs (`omarshal`), and the loop (`run_loop`). The
+//! commands `build`, `gen`, `verify`, `check --cert` and `scan` are in `cmd_build`, `cmd_gen`,
+//! `cmd_verify`, `cmd_certify` and `cmd_scan`. Theorems about two calls in sequence are in
+//! `thm_roundtrip` and `thm_certificates`. Time and memory are not promised.
 #![tactic(auto)]
 
 mod build;

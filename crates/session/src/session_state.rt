@@ -36,8 +36,9 @@ fn keeps_none(stream_check: &StreamCheck<'_>) -> bool
     stream_check.kept().is_empty()
 }
 
-/// Returns true if the current bytes should be given to the streaming check. Either they continue a
-/// value that is being checked, or a new value begins and the next value should be checked.
+/// Returns true if the current bytes should be given to the streaming check. If the current bytes
+/// continue a value that is being checked, the check continues. If a new value begins, the counters
+/// of useful checks decide.
 fn is_due(inspects: &mut CheckBackoff, values: &Values, stream_check: &StreamCheck<'_>) -> bool
     requires { (value_task : ValueTask) × (taken : List ℕ) × (output : List Output)
         × HasRead value_task values.now taken output }
@@ -54,8 +55,9 @@ fn is_due(inspects: &mut CheckBackoff, values: &Values, stream_check: &StreamChe
     }
 }
 
-/// Returns true if a value to be edited should be given to the streaming check: it begins with the
-/// current bytes, no script line needs it, and the next value should be checked.
+/// Returns true if a value to be edited should be given to the streaming check. The value must
+/// begin with the current bytes, no script line may need the value, and the counters must allow the
+/// check.
 fn is_left_due(
     inspects: &mut CheckBackoff,
     values: &Values,
@@ -80,7 +82,7 @@ fn is_left_due(
 }
 
 /// Passes the bytes kept by the streaming check to the reader of the values, and ends the check of
-/// this value.
+/// the current value.
 fn give_up(
     alloc: Global,
     values: &mut Values,
@@ -100,9 +102,13 @@ fn give_up(
     values.take_prefix(kept.kept())
 }
 
-/// The state of the operation: the operation itself, the values so far, the streaming check with
-/// the bytes that it has kept, the counters of useful checks, and the line buffer for `no`
-/// verdicts.
+/// The state of the operation:
+///
+/// - `value_task`: the operation,
+/// - `values`: the values read up to now,
+/// - `stream_check`: the streaming check, with the bytes that the check has kept,
+/// - `inspects`: the counters of useful checks,
+/// - `line`: the line buffer for `no` verdicts.
 #[derive(Drop)]
 pub struct SessionState<'a> {
     value_task: ValueTask<'a>,
@@ -128,7 +134,8 @@ impl<'a> SessionState<'a> {
         }
     }
 
-    /// Takes current bytes without a streaming check, after those that the check has kept.
+    /// Takes current bytes without a streaming check, after the bytes that the streaming check has
+    /// kept.
     fn read_on<K: Sink>(
         &mut self,
         alloc: Global,
@@ -146,12 +153,14 @@ impl<'a> SessionState<'a> {
             (change (K.state out.old) (K.state out.new)) result }
     {
         give_up(alloc, &mut self.values, &mut self.stream_check)?;
-        self.values.read_some(alloc, self.value_task, buffered, out)
+        let mismatched = self.inspects.mismatched;
+        self.values
+            .read_some(alloc, self.value_task, mismatched, buffered, out)
     }
 
-    /// Takes current bytes if values are edited. If a value is left unchanged, lies completely in
-    /// the current bytes, and the streaming check is conclusive, then it is written without being
-    /// read.
+    /// Takes current bytes if values are edited. If a value needs no edit, lies completely in the
+    /// current bytes, and the streaming check is conclusive, then the value is written without
+    /// being read.
     fn feed_edited<K: Sink>(
         &mut self,
         alloc: Global,
@@ -211,46 +220,35 @@ impl Work for SessionState<'_> {
         true
     }
 
-    fn feed<K: Sink>(
-        &mut self,
-        alloc: Global,
-        buffered: &[u8],
-        out: &mut K,
-    ) -> Result<usize, Error> {
+    fn feed<K: Sink>(&mut self, alloc: Global, chunk: &[u8], out: &mut K) -> Result<usize, Error> {
         if let ValueTask::Edit(edits, limit) = self.value_task {
-            return self.feed_edited(alloc, edits, limit, buffered, out);
+            return self.feed_edited(alloc, edits, limit, chunk, out);
         }
         let Some((requested, limit)) = self.value_task.verdict() else {
-            return self.read_on(alloc, buffered, out);
+            return self.read_on(alloc, chunk, out);
         };
         if !is_due(&mut self.inspects, &self.values, &self.stream_check) {
-            return self.read_on(alloc, buffered, out);
+            return self.read_on(alloc, chunk, out);
         }
         let line = &mut self.line;
-        let seen = fast_check(
-            alloc,
-            requested,
-            limit,
-            &mut self.stream_check,
-            buffered,
-            line,
-        )?;
+        let seen = fast_check(alloc, requested, limit, &mut self.stream_check, chunk, line)?;
         match seen {
             FastResult::Yes(n) => {
                 self.inspects.count_useful();
                 self.values
-                    .take_known(requested, limit, buffered, n, b"yes\n", true, out)
+                    .take_known(requested, limit, chunk, n, b"yes\n", true, out)
             }
             FastResult::No(n) => {
                 self.inspects.count_useful();
                 let line = self.line.as_slice();
                 self.values
-                    .take_known(requested, limit, buffered, n, line, false, out)
+                    .take_known(requested, limit, chunk, n, line, false, out)
             }
-            FastResult::More => Ok(buffered.len()),
+            FastResult::More => Ok(chunk.len()),
             FastResult::Inconclusive => {
                 self.inspects.count_useless();
-                self.read_on(alloc, buffered, out)
+                self.inspects.mismatched = self.stream_check.mismatched();
+                self.read_on(alloc, chunk, out)
             }
         }
     }

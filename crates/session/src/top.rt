@@ -33,7 +33,6 @@ ghost use Rattle.text_path.specs.ScriptAnswer.{AreInTime};
 ghost use Rattle.session.specs.Values.{IsReadyValueTask, task_of};
 ghost use Rattle.session.specs.Verdict.{query_of};
 ghost use Rattle.cli_args.specs.Requests.{texts, request_of};
-ghost use Rattle.cli_errors.specs.Exits.{Reports};
 
 use crate::build::build;
 use crate::commands::{
@@ -65,13 +64,6 @@ use run_loop::work::run_reported;
 use run_types::{Requested, find_script, find_type, path_exit};
 use std::alloc::Global;
 use text_path::{Script, lines_in_time, read_path};
-
-// Writes the error line of an exit reason to `err`, and returns the exit status.
-fn report<E: Sink>(alloc: Global, err: &mut E, exit: Exit) -> Status
-    ensures { Reports exit (change (E.state err.old) (E.state err.new)) result }
-{
-    report_exit(alloc, err, &exit)
-}
 
 // Performs the operation on the values of the input, after the bytes that `--skip` names. With
 // `--only`, writes output for one value alone.
@@ -122,7 +114,7 @@ fn report_over<S: Source, K: Sink, E: Sink>(
     take_values(alloc, value_task, over, reading.only, input, out, err)
 }
 
-// Reads FILE and TYPE, and reports on the values.
+// Reads FILE and TYPE, and reports on the values of the input.
 fn announce<S: Source, O: Opener, K: Sink, E: Sink>(
     alloc: Global,
     file: &str,
@@ -146,7 +138,7 @@ fn announce<S: Source, O: Opener, K: Sink, E: Sink>(
 {
     match find_type(alloc, files, file, type_text, lines, false) {
         Ok(requested) => report_over(alloc, requested, query, reading, input, out, err),
-        Err(exit) => report(alloc, err, exit),
+        Err(exit) => report_exit(alloc, err, &exit),
     }
 }
 
@@ -179,11 +171,11 @@ fn get<S: Source, O: Opener, K: Sink, E: Sink>(
                 alloc, file, type_text, lines, query, reading, input, files, out, err,
             )
         }
-        Err(fault) => report(alloc, err, path_exit(fault)),
+        Err(fault) => report_exit(alloc, err, &path_exit(fault)),
     }
 }
 
-// Edits the values by the lines of SCRIPT.
+// Edits the values of the input by the lines of SCRIPT.
 fn edit_with<S: Source, K: Sink, E: Sink>(
     alloc: Global,
     requested: &Requested,
@@ -216,7 +208,7 @@ fn edit_with<S: Source, K: Sink, E: Sink>(
     take_values(alloc, value_task, over, reading.only, input, out, err)
 }
 
-// Reads SCRIPT and edits the values.
+// Reads SCRIPT, and edits the values of the input.
 fn edit_by<S: Source, O: Opener, K: Sink, E: Sink>(
     alloc: Global,
     requested: &Requested,
@@ -239,7 +231,7 @@ fn edit_by<S: Source, O: Opener, K: Sink, E: Sink>(
     lines_in_time();
     match find_script(alloc, files, script, requested.lines(), requested.decimal()) {
         Ok(script) => edit_with(alloc, requested, script, compat, reading, input, out, err),
-        Err(exit) => report(alloc, err, exit),
+        Err(exit) => report_exit(alloc, err, &exit),
     }
 }
 
@@ -268,7 +260,7 @@ fn edit_over<S: Source, O: Opener, K: Sink, E: Sink>(
     )
 }
 
-// The command `edit`: reads FILE and TYPE, then SCRIPT.
+// The command `edit`, which reads FILE and TYPE before SCRIPT.
 fn edit<S: Source, O: Opener, K: Sink, E: Sink>(
     alloc: Global,
     file: &str,
@@ -295,11 +287,11 @@ fn edit<S: Source, O: Opener, K: Sink, E: Sink>(
         Ok(requested) => edit_over(
             alloc, requested, script, compat, reading, input, files, out, err,
         ),
-        Err(exit) => report(alloc, err, exit),
+        Err(exit) => report_exit(alloc, err, &exit),
     }
 }
 
-// Executes a request.
+// Executes a request, and returns the exit status.
 fn run_request<S: Source, O: Opener, K: Sink, E: Sink>(
     alloc: Global,
     request: Request<'_>,
@@ -474,8 +466,8 @@ fn run_command<S: Source, O: Opener, K: Sink, E: Sink>(
 {
     match read_arguments(alloc, arguments) {
         Ok(request) => run_request(alloc, request, input, files, out, err),
-        Err(ArgumentsError::Usage) => report(alloc, err, Exit::Usage),
-        Err(ArgumentsError::Memory) => report(alloc, err, Exit::Memory),
+        Err(ArgumentsError::Usage) => report_exit(alloc, err, &Exit::Usage),
+        Err(ArgumentsError::Memory) => report_exit(alloc, err, &Exit::Memory),
     }
 }
 

@@ -35,8 +35,8 @@ use run_types::Requested;
 use std::alloc::Global;
 use std::mem;
 
-/// The operation on the values: report on each, edit each, or compare two. The number is the
-/// greatest number of 64-bit words in a value.
+/// The operation on the values: report on each value, edit each value, or compare two values. The
+/// number is the greatest number of 64-bit words in a value.
 #[derive(Clone, Copy)]
 pub enum ValueTask<'a> {
     Print(Printing<'a>, u64),
@@ -55,7 +55,7 @@ impl<'a> ValueTask<'a> {
         }
     }
 
-    /// Returns the type and the limit, if the operation reports only the verdict on each value.
+    /// Returns the type and the limit if the operation reports only the verdict on each value.
     pub fn verdict(self) -> Option<(&'a Requested, u64)>
         ensures { IfSome result (λ at. self.entry ≡ verdict_value_task at.0 at.1) }
     {
@@ -68,7 +68,7 @@ impl<'a> ValueTask<'a> {
     }
 }
 
-/// Appends a value.
+/// Appends a value to the kept values.
 fn keep(kept: &mut Vec<Value>, value: Value) -> Result<(), Memory>
     ensures { OnOk result (kept.new.items ≡ kept.old.items ++ value ∷ []) }
 {
@@ -78,7 +78,7 @@ fn keep(kept: &mut Vec<Value>, value: Value) -> Result<(), Memory>
 /// The greatest capacity in bytes of a line buffer that is kept for the next lines.
 const ROOM_KEPT: usize = 1 << 20;
 
-/// Frees a line buffer with a greater capacity.
+/// If the capacity of a line buffer is greater than `ROOM_KEPT`, frees the buffer.
 fn give_back(line: &mut Vec<u8>, alloc: Global) {
     if line.capacity() > ROOM_KEPT {
         *line = Vec::new(alloc);
@@ -86,17 +86,19 @@ fn give_back(line: &mut Vec<u8>, alloc: Global) {
 }
 
 /// Writes the output for a value. Returns true if the value is ok. Reuses the line buffer.
+/// `mismatched` is true if the value is known to have a type mismatch, which only saves time.
 fn write_output<K: Sink>(
     alloc: Global,
     value: &Rooted<'_>,
     printing: Printing<'_>,
+    mismatched: bool,
     line: &mut Vec<u8>,
     out: &mut K,
 ) -> Result<bool, Error>
     ensures { WritesOutput printing.entry value.now.heap.now value.now.root
         (change (K.state out.old) (K.state out.new)) result }
 {
-    let ok = line_of(line, alloc, value, printing)?;
+    let ok = line_of(line, alloc, value, printing, mismatched)?;
     write_all(out, line.as_slice())?;
     give_back(line, alloc);
     Ok(ok)
@@ -125,9 +127,9 @@ fn compare<K: Sink>(alloc: Global, kept: &[Value], out: &mut K) -> Result<bool, 
     Ok(agree)
 }
 
-/// The state of the values so far: the reader of the next value, whether all values and the last
-/// one are ok, their number, the values kept for comparison, the values from which later lines
-/// copy, and the line buffer.
+/// The state of the values read up to now. The state has the reader of the next value, the flags
+/// for all values and for the last value, and the number of values. The state also has the values
+/// kept for comparison, the values from which later lines copy, and the line buffer.
 #[derive(Drop)]
 pub struct Values {
     reader: Reader,
@@ -169,13 +171,14 @@ impl Values {
         }
     }
 
-    /// Writes the output for the value that the reader has read completely. Then the reader waits
-    /// for the next value.
+    /// Writes the output for the value that the reader has read completely. Resets the reader,
+    /// which waits for the next value.
     fn write_line<K: Sink>(
         &mut self,
         alloc: Global,
         printing: Printing<'_>,
         limit: u64,
+        mismatched: bool,
         out: &mut K,
     ) -> Result<(), Error>
         requires { (taken : List ℕ) × (output : List Output)
@@ -191,7 +194,7 @@ impl Values {
             heap: value.heap,
             root: value.root,
         };
-        let ok = write_output(alloc, &borrowed, printing, &mut self.line, out)?;
+        let ok = write_output(alloc, &borrowed, printing, mismatched, &mut self.line, out)?;
         self.reader.restart(limit);
         self.ok &= ok;
         self.last = ok;
@@ -199,8 +202,9 @@ impl Values {
         Ok(())
     }
 
-    /// Edits the value that the reader has read completely, and writes its bytes. The reader for
-    /// the next value reuses the memory of this one, unless a later line copies a part of it.
+    /// Edits the value that the reader has read completely, and writes the value's bytes. If no
+    /// later line copies a part of the value, the reader for the next value reuses the value's
+    /// memory.
     fn write_edited<K: Sink>(
         &mut self,
         alloc: Global,
@@ -242,7 +246,8 @@ impl Values {
         Ok(())
     }
 
-    /// Keeps the value that the reader has read completely. A new reader waits for the next value.
+    /// Keeps the value that the reader has read completely, and creates a new reader for the next
+    /// value.
     fn keep_value(&mut self, alloc: Global, limit: u64) -> Result<(), Memory>
         requires { (taken : List ℕ) × (output : List Output)
             × IsValueRead (value_tasks.Compare limit) self.old taken output
@@ -263,6 +268,7 @@ impl Values {
         &mut self,
         alloc: Global,
         value_task: ValueTask<'_>,
+        mismatched: bool,
         out: &mut K,
     ) -> Result<(), Error>
         requires { (taken : List ℕ) × (output : List Output)
@@ -274,7 +280,9 @@ impl Values {
             (change (K.state out.old) (K.state out.new)) self.new result }
     {
         match value_task {
-            ValueTask::Print(printing, limit) => self.write_line(alloc, printing, limit, out),
+            ValueTask::Print(printing, limit) => {
+                self.write_line(alloc, printing, limit, mismatched, out)
+            }
             ValueTask::Edit(edits, limit) => self.write_edited(alloc, edits, limit, out),
             ValueTask::Compare(limit) => Ok(self.keep_value(alloc, limit)?),
         }
@@ -292,8 +300,8 @@ impl Values {
         }
     }
 
-    /// Takes a value whose verdict the streaming check has reported, and writes its line. The value
-    /// consists of the bytes kept by the check and the first `n` current bytes.
+    /// Takes a value whose verdict the streaming check has reported, and writes the value's line.
+    /// The value consists of the bytes kept by the check and the first `n` current bytes.
     #[inline(always)]
     pub fn take_known<K: Sink>(
         &mut self,
@@ -327,8 +335,8 @@ impl Values {
     }
 
     /// Takes a value that consists of the first `n` current bytes, and writes these bytes. No
-    /// script line needs the value, and the streaming check has shown that it has the type and that
-    /// these are its canonical bytes.
+    /// script line may need the value. The streaming check must have shown that the value has the
+    /// type and that the bytes are canonical.
     pub fn take_left<K: Sink>(
         &mut self,
         edits: Edits<'_>,
@@ -373,11 +381,14 @@ impl Values {
         }
     }
 
-    /// Takes bytes up to the end of a value and writes its output, or takes all bytes.
+    /// Takes bytes up to the end of a value and writes the value's output. If the value is not
+    /// complete, takes all bytes. `mismatched` is true if the value is known to have a type
+    /// mismatch, which only saves time.
     pub fn read_some<K: Sink>(
         &mut self,
         alloc: Global,
         value_task: ValueTask<'_>,
+        mismatched: bool,
         rest: &[u8],
         out: &mut K,
     ) -> Result<usize, Error>
@@ -396,7 +407,7 @@ impl Values {
         match self.reader.feed(rest) {
             Ok(fed) => {
                 if fed.done {
-                    self.write_value(alloc, value_task, out)?;
+                    self.write_value(alloc, value_task, mismatched, out)?;
                 }
                 Ok(fed.taken)
             }

@@ -1,4 +1,4 @@
-//! The output for a value.
+//! The output for a value, as text.
 
 ghost use Rattle.std.specs.Prelude.{◌≡◌, ◌<◌, ◌++◌, length, IfOk, OnOk, MatchBool};
 ghost use Rattle.types_spec.specs.types.Typing.{HasType};
@@ -17,12 +17,12 @@ ghost use Rattle.trees.specs.verdict.VerdictText.{is_sound as is_sound_verdict};
 
 use base_data::model::Memory;
 use base_data::model::path::Path;
+use base_data::text::write;
 use check_fault::walk;
 use check_heap::check::{Verdict, surely_has};
-use cli_errors::write::write;
 use cli_spec::style::Style;
 use marshal_heap::heap::Rooted;
-use run_types::{Requested, find_verdict, write_near_no, write_no};
+use run_types::{Requested, find_fault, find_verdict, write_near_no, write_no};
 use std::alloc::Global;
 use text_decimal::texts::write_decimal_text;
 use text_pretty::write_pretty;
@@ -33,8 +33,8 @@ use trees::verdict::{tables_have_the_verdict, tables_judge_trees, trees, write_v
 use types_table::type_table::TypeTable;
 use types_theory::table::tables_decide;
 
-/// The report on a value that has its type: that it has the type, its text, the text of the part at
-/// a path, or the verdict on its sets and maps.
+/// The report on a value that has its type: the verdict `yes`, the value's text, the text of the
+/// part at a path, or the verdict on the value's sets and maps.
 #[derive(Clone, Copy)]
 pub enum Query<'a> {
     Verdict,
@@ -50,18 +50,21 @@ pub enum Printing<'a> {
     Dump,
 }
 
-/// Replaces `line` by the output for a value, with its line feeds. Returns true if the value is ok.
+/// Replaces `line` by the output for a value, with line feeds. Returns true if the value is ok.
 pub fn line_of(
     line: &mut Vec<u8>,
     alloc: Global,
     value: &Rooted<'_>,
     printing: Printing<'_>,
+    mismatched: bool,
 ) -> Result<bool, Memory>
     ensures { IfOk result
         (IsOutputOf printing.entry value.now.heap.now value.now.root line.new.items) }
 {
     match printing {
-        Printing::Report(requested, query) => known_line(line, alloc, value, requested, query),
+        Printing::Report(requested, query) => {
+            known_line(line, alloc, value, requested, query, mismatched)
+        }
         Printing::Dump => dumped_lines(line, value),
     }
 }
@@ -83,13 +86,14 @@ fn known_line(
     value: &Rooted<'_>,
     requested: &Requested,
     query: Query<'_>,
+    mismatched: bool,
 ) -> Result<bool, Memory>
     ensures { IfOk result
         (IsOutputOf (printings.Report requested.entry query.entry) value.now.heap.now value.now.root
         line.new.items) }
 {
     line.clear();
-    let ok = write_checked(line, alloc, value, requested, query)?;
+    let ok = write_checked(line, alloc, value, requested, query, mismatched)?;
     write(line, b"\n")?;
     Ok(ok)
 }
@@ -102,6 +106,7 @@ fn write_checked(
     value: &Rooted<'_>,
     requested: &Requested,
     query: Query<'_>,
+    mismatched: bool,
 ) -> Result<bool, Memory>
     ensures { IfOk result
         (WritesLine (query_of query.entry) (type_over requested.now) value.now.heap.now
@@ -114,14 +119,31 @@ fn write_checked(
     if surely_has(value.heap, value.root, requested.table()) {
         return write_known(text, alloc, value, requested, query);
     }
-    let verdict = find_verdict(alloc, value, requested)?;
+    let verdict = verdict_on(alloc, value, requested, mismatched)?;
     write_line(text, alloc, value, requested, query, &verdict)
 }
 
+/// Checks a value against a type. If `mismatched` is true, expects a type mismatch, which only
+/// saves time.
+fn verdict_on(
+    alloc: Global,
+    value: &Rooted<'_>,
+    requested: &Requested,
+    mismatched: bool,
+) -> Result<Verdict, Memory>
+    ensures { IfOk result (IsVerdictOf requested.now value.now.heap.now value.now.root) }
+{
+    if mismatched {
+        find_fault(alloc, value, requested)
+    } else {
+        find_verdict(alloc, value, requested)
+    }
+}
+
 /// Fast path for faults near the root. If only the verdict is requested, and a small value has its
-/// first fault near the root, appends `no` and the fault and returns true. Otherwise leaves `text`
-/// unchanged and returns false. The streaming check was inconclusive for this value, so the value
-/// probably has a fault.
+/// first fault near the root, appends `no` and the fault and returns true. In every other case,
+/// leaves `text` unchanged and returns false. A value for which the streaming check was
+/// inconclusive probably has a fault.
 fn write_soon(
     text: &mut Vec<u8>,
     alloc: Global,
@@ -141,8 +163,8 @@ fn write_soon(
     }
 }
 
-/// Appends the report on a value with this verdict: `no` and the fault if the value lacks the type.
-/// Returns true if the value is ok.
+/// Appends the report on a value with a given verdict. If the value lacks the type, the report is
+/// `no` and the fault. Returns true if the value is ok.
 fn write_line(
     text: &mut Vec<u8>,
     alloc: Global,
@@ -199,7 +221,7 @@ fn write_known(
 }
 
 /// Appends the text of a value at a type of the table, on one line. If `decimal` is true, doubles
-/// are printed as decimals, otherwise by their bits.
+/// are printed as decimals, and if `decimal` is false, by their bits.
 fn write_plain_at(
     text: &mut Vec<u8>,
     alloc: Global,
@@ -226,7 +248,7 @@ fn write_plain_at(
     write_decimal_text(alloc, text, bits.as_slice())
 }
 
-/// Appends the text of a value at a type of the table, in this style.
+/// Appends the text of a value at a type of the table, in a given style.
 fn write_styled_at(
     text: &mut Vec<u8>,
     alloc: Global,
@@ -287,7 +309,7 @@ fn write_part(
     }
 }
 
-/// Returns true if the sets and maps are sound.
+/// Returns true if a verdict states that all sets and maps of a value are sound.
 fn is_sound(verdict: &TreeVerdict) -> bool
     ensures { result ≡ is_sound_verdict verdict.now }
 {
@@ -297,7 +319,8 @@ fn is_sound(verdict: &TreeVerdict) -> bool
     }
 }
 
-/// Appends the verdict on the sets and maps in a value. Returns true if they are sound.
+/// Appends the verdict on the sets and maps in a value. Returns true if all sets and maps are
+/// sound.
 fn write_trees(
     text: &mut Vec<u8>,
     alloc: Global,
@@ -315,6 +338,6 @@ fn write_trees(
     tables_judge_trees();
     tables_have_the_verdict();
     let verdict = trees(alloc, value, requested.table())?;
-    write_verdict(text, alloc, &verdict)?;
+    write_verdict(text, &verdict)?;
     Ok(is_sound(&verdict))
 }

@@ -13,8 +13,8 @@ use std::{fs, io};
 /// The greatest number of 64-bit words that a value may have.
 const LIMIT: u64 = 1 << 27;
 
-// Writes the first value in the bytes. Returns the number of bytes it had, or `None` if the bytes
-// do not begin with a complete value.
+// Writes the first value in the bytes. Returns the number of bytes of the value, or `None` if the
+// bytes do not begin with a complete value.
 fn write_first<K: Sink>(alloc: Global, bytes: &[u8], sink: &mut K) -> io::Result<Option<usize>> {
     let mut reader = Reader::new(alloc, LIMIT);
     let Ok(fed) = reader.feed(bytes) else {
@@ -30,8 +30,8 @@ fn write_first<K: Sink>(alloc: Global, bytes: &[u8], sink: &mut K) -> io::Result
     }
 }
 
-// Writes the consecutive values at the beginning of the bytes. Returns the total number of bytes
-// they had.
+// Writes the consecutive values at the beginning of the bytes. Returns the number of bytes of all
+// these values.
 fn write_values<K: Sink>(alloc: Global, bytes: &[u8], sink: &mut K) -> io::Result<usize>
     ensures { IfOk result (λ taken. taken ≤ length bytes.now) }
 {
@@ -45,8 +45,9 @@ fn write_values<K: Sink>(alloc: Global, bytes: &[u8], sink: &mut K) -> io::Resul
     Ok(bytes.len() - rest.len())
 }
 
-/// Writes the values of the stream `NAME` again, and prints the result. If it equals the stream up
-/// to an offset where no complete value begins, prints that; otherwise prints the bytes.
+/// Writes the values of the stream `NAME` again, and prints the result. If the written bytes equal
+/// the stream up to an offset where no complete value begins, prints that offset. Otherwise prints
+/// the written bytes.
 pub fn answer(rt: &HostRuntime, stream: &str) -> io::Result<()> {
     let alloc = rt.alloc();
     let name = format!(in alloc; "{stream}.stream")?;

@@ -9,7 +9,7 @@ use marshal_read::Value;
 use std::alloc::{AllocError, Global};
 use test_oracles::{Graph, Judgement, graph_of, judge};
 
-/// A value, and the number of its bytes.
+/// A value, and the number of bytes that encode the value.
 #[derive(Drop)]
 pub struct Read {
     pub value: Value,
@@ -37,7 +37,7 @@ fn push_doubles(alloc: Global, text: &mut String, all: &[u64]) -> Result<(), All
     Ok(())
 }
 
-// Appends the contents of an object of a heap, after its kind.
+// Appends the contents of an object of a heap, after the kind of the object.
 fn push_content(
     alloc: Global,
     text: &mut String,
@@ -86,8 +86,8 @@ pub fn value_text(alloc: Global, value: &Value) -> Result<String, AllocError> {
     Ok(text)
 }
 
-/// Returns the result of a reader for some bytes as text. There is no value if more bytes are
-/// needed.
+/// Returns the result of a reader for some bytes as text. If the reader needs more bytes, the text
+/// states that there is no value.
 pub fn read_text(
     alloc: Global,
     answer: &Result<Option<Read>, ReadRefusal>,

@@ -1,11 +1,11 @@
 //! A test program that compares results of the crates and of whole runs with stored answers.
 //!
-//! It reads questions from standard input, one a line, and prints each question with its answer.
-//! The files `stdin` and `stdout` of the crate store the questions and the answers; `README.md`
-//! says where the answers come from. The kinds of questions are:
+//! The program reads questions from standard input, one in each line, and prints each question with
+//! its answer. The files `stdin` and `stdout` of the crate store the questions and the answers;
+//! `README.md` says where the answers come from. The kinds of questions are:
 //!
 //! - `stream`, `value`: what `run` prints for streams that OCaml wrote.
-//! - `prefixes`: what becomes of each prefix of some bytes.
+//! - `prefixes`: the result of reading each prefix of some bytes.
 //! - `again`: the bytes written for values that were read.
 //! - `decls`, `type`, `table`: texts of declarations and types, and the table of a type.
 //! - `steps`: the steps of a check.
@@ -15,7 +15,7 @@
 //! `test_oracles` gives another result for a prefix, the answer says so.
 //!
 //! Leaves out: tests of single functions (`test_units`) and the scripts that run the comparison
-//! (`tools`). No crate depends on this program.
+//! (`tools`). No crate depends on the program.
 #![tactic(auto)]
 
 mod again;

@@ -35,8 +35,8 @@ fn read_by_byte(alloc: Global, bytes: &[u8], limit: u64) -> Result<Option<Read>,
     Ok(None)
 }
 
-/// Returns the result of the reader for the bytes in one chunk. If the results for single bytes or
-/// of the reference program differ, includes them.
+/// Returns the result of the reader for the bytes in one chunk. If the reader's result for single
+/// bytes or the result of the reference program is another one, the text includes that result.
 fn answer_text(rt: &HostRuntime, bytes: &[u8], limit: u64) -> io::Result<String> {
     let alloc = rt.alloc();
     let mut text = read_text(alloc, &read_whole(alloc, bytes, limit))?;
@@ -68,8 +68,8 @@ fn answer_prefixes(rt: &HostRuntime, bytes: &[u8], limit: u64) -> io::Result<()>
     Ok(())
 }
 
-/// Prints the results for the prefixes for `LIMIT BYTES`: a limit in 64-bit words, and the bytes in
-/// hexadecimal digits.
+/// Prints the results for the prefixes for a question `LIMIT BYTES`. LIMIT is a number of 64-bit
+/// words, and BYTES are hexadecimal digits.
 pub fn answer(rt: &HostRuntime, question: &str) -> io::Result<()> {
     let Some((limit, digits)) = question.split_once(' ') else {
         return Err(ErrorKind::InvalidInput.into());

@@ -6,8 +6,8 @@ use itoa::Buffer;
 use types_spec::types::names::{ConstrNames, Names, TagName};
 use types_spec::types::shape::{Constr, PolyTag, ShapeOf};
 
-/// The row of a type: its text, its shape over indices, the index of the first type that is equal
-/// to it, and its names.
+/// The row of a type: the type's text, its shape over indices, the index of the first type that is
+/// equal to it, and its names.
 #[derive(Drop)]
 pub struct TypeRow<'a> {
     pub text: List<u8>,
@@ -41,12 +41,12 @@ fn write_positions(out: &mut Vec<u8>, numbers: &[usize]) -> Result<(), Memory> {
     Ok(())
 }
 
-// Appends `mutable` if the values are mutable.
+// Appends `mutable` if `mutable` is true.
 fn write_mutable(out: &mut Vec<u8>, mutable: bool) -> Result<(), Memory> {
     write(out, if mutable { b" mutable" } else { b"" })
 }
 
-// Appends the number of constants, and the blocks.
+// Appends the number of constants, and the blocks, of a sum type.
 fn write_sum(out: &mut Vec<u8>, constants: u64, blocks: &[Constr<usize>]) -> Result<(), Memory> {
     write_number(out, constants as usize)?;
     for block in blocks {
@@ -57,7 +57,7 @@ fn write_sum(out: &mut Vec<u8>, constants: u64, blocks: &[Constr<usize>]) -> Res
     Ok(())
 }
 
-// Appends tags, each as its hash.
+// Appends tags of a polymorphic variant, each as the hash of the tag.
 fn write_tags(out: &mut Vec<u8>, tags: &[PolyTag<usize>]) -> Result<(), Memory> {
     for tag in tags {
         write(out, if tag.hash < 0 { b", -" } else { b", " })?;
@@ -69,7 +69,7 @@ fn write_tags(out: &mut Vec<u8>, tags: &[PolyTag<usize>]) -> Result<(), Memory> 
     Ok(())
 }
 
-// Returns the word for a shape.
+// Returns the text with which the row of a shape begins.
 fn word(shape: &ShapeOf<usize>) -> &'static [u8] {
     match shape {
         ShapeOf::AnyInt => b"any integer",
@@ -128,7 +128,7 @@ fn write_names(out: &mut Vec<u8>, names: &[List<u8>]) -> Result<(), Memory> {
     Ok(())
 }
 
-// Appends the name of a constructor with arguments, and the names of its fields.
+// Appends the name of a constructor with arguments, and the names of the constructor's fields.
 fn write_constructor(out: &mut Vec<u8>, constructor: &ConstrNames) -> Result<(), Memory> {
     write(out, b" ")?;
     write(out, constructor.name.as_slice())?;
@@ -137,7 +137,7 @@ fn write_constructor(out: &mut Vec<u8>, constructor: &ConstrNames) -> Result<(),
     write(out, b" )")
 }
 
-// Appends a tag and its hash.
+// Appends a tag and the hash of the tag.
 fn write_hashed(out: &mut Vec<u8>, tag: &TagName) -> Result<(), Memory> {
     write(out, b" `")?;
     write(out, tag.name.as_slice())?;

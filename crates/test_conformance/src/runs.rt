@@ -1,18 +1,19 @@
-//! Prints how whole runs end. A run happens in memory, its input comes in chunks of several sizes,
-//! and I/O calls may fail. A question consists of these parts, separated by tabs: settings, the
-//! input in hexadecimal digits, the text of `f.ml` after `=` (or `none`), and the arguments.
+//! Prints how whole runs end. A run happens in memory, its input arrives in chunks of several
+//! sizes, and I/O calls may fail. A question consists of parts that are separated by tabs:
+//! settings, the input in hexadecimal digits, the text of `f.ml` after `=` (or `none`), and the
+//! arguments.
 //!
 //! The settings are:
 //!
 //! - `fetch=N`, `read=N` or `take=N`: call N of this kind fails. Calls are counted from 0.
-//! - `put=N`: call N of each of out and err fails. `put_out=N` and `put_err=N` do so for one of
-//!   them. Several numbers are separated by commas.
+//! - `put=N`: call N of out fails, and call N of err fails. `put_out=N` and `put_err=N`: call N of
+//!   one sink fails. Several numbers are separated by commas.
 //! - `out=N` or `err=N`: the sink has room for this number of bytes.
 //! - `piece=N`: a read returns at most this number of bytes.
 //! - `script=` with hexadecimal digits: there is a file `script` with these bytes.
-//! - `file=` with hexadecimal digits, instead of `=`: the text of `f.ml`, if it has more than one
-//!   line.
-//! - `word=` with hexadecimal digits: one more argument, after the others.
+//! - `file=` with hexadecimal digits, instead of `=`: the text of `f.ml`, if the text has more than
+//!   one line.
+//! - `word=` with hexadecimal digits: one more argument, after the other arguments.
 
 use base_io::{MemFiles, MemSink, MemSource};
 use cli_spec::status::Status;
@@ -111,8 +112,8 @@ fn files_of(alloc: Global, given: &RunInputs) -> io::Result<Vec<(String, Vec<u8>
     Ok(pairs)
 }
 
-// If something was written, appends `before` and the written bytes. If the last line has no line
-// feed, also appends ` (cut)` and a line feed.
+// If something was written, appends `before` and the written bytes. If the last written line has no
+// line feed, appends ` (cut)` and a line feed, too.
 fn write_written(text: &mut Vec<u8>, before: &[u8], written: &[u8]) -> io::Result<()> {
     match written {
         [] => Ok(()),
@@ -127,7 +128,7 @@ fn write_written(text: &mut Vec<u8>, before: &[u8], written: &[u8]) -> io::Resul
     }
 }
 
-// Appends the bytes of the written values in hexadecimal digits, if there are any.
+// Appends the bytes of the written values in hexadecimal digits, if bytes were written.
 fn append_values(alloc: Global, text: &mut Vec<u8>, written: &[u8]) -> io::Result<()> {
     match written {
         [] => Ok(()),
@@ -146,7 +147,7 @@ fn writes_values(words: &[String]) -> bool {
     }
 }
 
-// Appends the number of failed calls of a kind, if any failed.
+// Appends the number of failed calls of a kind, if the number is not 0.
 fn write_faults(text: &mut Vec<u8>, kind: &str, faults: u64) -> io::Result<()> {
     if faults > 0 {
         writeln!(text, "failed to {kind}: {faults}")?;
@@ -163,7 +164,7 @@ struct World {
     err: MemSink,
 }
 
-// Returns the input, of which a read returns at most `chunk` bytes.
+// Returns the input. A read of the input returns at most `chunk` bytes.
 fn input_of(alloc: Global, given: &RunInputs, chunk: usize) -> io::Result<MemSource> {
     let bytes = Vec::from_slice(alloc, given.input.as_slice())?;
     let takes = failing(alloc, given, "take")?;
@@ -184,7 +185,8 @@ fn opener_of(alloc: Global, given: &RunInputs) -> io::Result<MemFiles> {
     Ok(MemFiles::new(alloc, pairs, fetches, reads))
 }
 
-// Returns a sink with its room. Its own failing calls are added to those of both sinks.
+// Returns a sink with its room. The calls that fail are the calls of `put` and the calls of the
+// sink's own setting.
 fn sink_of(alloc: Global, given: &RunInputs, name: &str, own: &str) -> io::Result<MemSink> {
     let mut writes = failing(alloc, given, "put")?;
     add_failing(&mut writes, given, own)?;
@@ -214,7 +216,7 @@ fn run_environment(alloc: Global, words: &[String], world: &mut World) -> Status
     )
 }
 
-// Returns the output of a run, its status, and the numbers of failed calls.
+// Returns the output of a run, the status of the run, and the numbers of failed calls.
 fn text_of(alloc: Global, words: &[String], world: &World, status: Status) -> io::Result<Vec<u8>> {
     let mut text = Vec::new(alloc);
     if writes_values(words) {
@@ -230,15 +232,15 @@ fn text_of(alloc: Global, words: &[String], world: &World, status: Status) -> io
     Ok(text)
 }
 
-/// Returns what a run writes to out and to err, its status, and the numbers of failed calls. The
-/// input comes in chunks of at most `chunk` bytes.
+/// Returns what a run writes to out and to err, the status of the run, and the numbers of failed
+/// calls. The input arrives in chunks of at most `chunk` bytes.
 fn ending(alloc: Global, given: &RunInputs, chunk: usize) -> io::Result<Vec<u8>> {
     let mut world = world_of(alloc, given, chunk)?;
     let status = run_environment(alloc, given.words.as_slice(), &mut world);
     text_of(alloc, given.words.as_slice(), &world, status)
 }
 
-// Returns the text of the file after `=`, or `None` for no file.
+// Returns the text of the file after `=`, or `None` if the question has no file.
 fn file_of(alloc: Global, text: &str) -> io::Result<Option<Vec<u8>>> {
     match text.strip_prefix("=") {
         Some(text) => Ok(Some(Vec::from_slice(alloc, text.as_bytes())?)),

@@ -1,11 +1,12 @@
-//! Prints if a value has a type, and the number of steps of the check. The root is one step. Each
-//! object is one step for each class of types at which it occurs. Each of its fields there is one
-//! step, up to the first mismatch. For a value that has the type, also prints its text and the
-//! number of pairs of objects and types that justify it.
+//! Prints whether a value has a type, and the number of steps of the check. The root is one step.
+//! Each object is one step for each class of types at which the object occurs. Each field of the
+//! object at that class is one step, up to the first mismatch. If the value has the type, its text
+//! is printed, too. The text comes with the number of pairs of objects and types that justify the
+//! verdict.
 //!
 //! A question gives the bytes of a value in hexadecimal digits, a type and declarations. Lines of a
-//! script may follow, each after a tab. Each line edits the value, even after a refused line, and
-//! then the value is checked again.
+//! script may follow, each after a tab. Each line edits the value, also after a refused line, and
+//! after each line the value is checked again.
 
 ghost use Rattle.std.specs.Prelude.{◌<◌, length, IfOk};
 ghost use Rattle.base_data.specs.model.Graph.{IsValue};
@@ -47,7 +48,7 @@ fn table_for(alloc: Global, question: &str) -> io::Result<TypeTable> {
     }
 }
 
-// Returns the value of the bytes in hexadecimal digits.
+// Returns the value that bytes in hexadecimal digits encode.
 fn value_of(alloc: Global, digits: &str) -> io::Result<Value>
     ensures { IfOk result (λ value. IsValue (length value.heap) value.root) }
 {
@@ -156,7 +157,7 @@ fn write_doubt(
     print!(rt; " (but not for is_fault)")
 }
 
-// Prints if the value has the type, and the number of steps of the check.
+// Prints whether the value has the type, and the number of steps of the check.
 fn write_verdict(rt: &HostRuntime, value: &Rooted<'_>, table: &TypeTable) -> io::Result<()> {
     let mut steps = Steps::new();
     let Ok(verdict) = check(rt.alloc(), value.heap, value.root, table, &mut steps) else {
@@ -174,7 +175,7 @@ fn write_refusal(rt: &HostRuntime, table: &TypeTable, refusal: &EditRefusal) -> 
     rt.stdout().write_all(text.as_slice())
 }
 
-// Edits the value by a line of a script, and prints the answer.
+// Edits the value by a line of a script, and prints the answer to the edit.
 fn write_edit(rt: &HostRuntime, value: &mut Value, table: &TypeTable, line: &str) -> io::Result<()>
     requires value { IsValue (length value.old.heap) value.old.root }
     ensures { IsValue (length value.new.heap) value.new.root }
@@ -195,7 +196,8 @@ fn write_edit(rt: &HostRuntime, value: &mut Value, table: &TypeTable, line: &str
     }
 }
 
-// Prints the answer to an edit, the value after it, and the result of checking the value.
+// Edits the value by a line of a script. Prints the answer to the edit, the value after the edit,
+// and the result of checking the value.
 fn answer_edit(rt: &HostRuntime, value: &mut Value, table: &TypeTable, line: &str) -> io::Result<()>
     requires value { IsValue (length value.old.heap) value.old.root }
     ensures { IsValue (length value.new.heap) value.new.root }
@@ -225,8 +227,8 @@ fn answer_edits(
     Ok(())
 }
 
-// Prints the result of checking the value of these digits, and the results of editing it by lines,
-// if there are any.
+// Prints the result of checking the value that the digits encode, and the results of editing the
+// value by lines, if the question has lines.
 fn answer_over(
     rt: &HostRuntime,
     digits: &str,
@@ -245,8 +247,8 @@ fn answer_over(
     }
 }
 
-/// Prints the result of checking the value of `BYTES at TYPE over TEXT`, and the results of editing
-/// it by the lines after that.
+/// Prints the result of checking the value of a question `BYTES at TYPE over TEXT`, and the results
+/// of editing the value by the lines after TEXT.
 pub fn answer(rt: &HostRuntime, question: &str) -> io::Result<()> {
     let (first, lines) = match question.split_once('\t') {
         Some((first, lines)) => (first, Some(lines)),

@@ -38,7 +38,7 @@ fn check(
 }
 
 /// Prints what `run` writes to out and to err for a stream at a type over the declarations of a
-/// file, and its status.
+/// file. Also prints the status of the run.
 pub fn write_answer(rt: &HostRuntime, file: &str, stream: &str, ty: &str) -> io::Result<()> {
     let mut known = Vec::new(rt.alloc());
     let status = check(rt, file, stream, ty, &mut known)?;

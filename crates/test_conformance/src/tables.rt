@@ -1,5 +1,5 @@
-//! Prints the table of the types that a type reaches. There is one line for each type, with its
-//! text, its shape over indices, the first type that is equal to it, and its names.
+//! Prints the table of the types that a type reaches. Each type has one line with the type's text,
+//! its shape over indices, the first type that is equal to it, and its names.
 
 ghost use Rattle.std.specs.Prelude.{◌<◌, length, IfSome};
 ghost use Rattle.types_spec.specs.types.Accepted.{AreWellFormed, AreSound, IsSoundType};
@@ -20,7 +20,7 @@ use types_spec::types::ty::Ty;
 use types_table::type_table::TypeTable;
 use types_wellformed::declarations::{read_decls, read_type};
 
-// Returns the first type in the class of this one.
+// Returns the first type in the class of type `number`.
 fn first_of_class(table: &TypeTable, number: usize) -> usize
     requires { number < length table.now.classes }
 {
@@ -80,8 +80,9 @@ pub fn accepted(alloc: Global, question: &str) -> Option<(List<Decl>, Ty)>
     Some((decls, ty))
 }
 
-// Returns the results of the calls for types given as trees: the expansion of the type, whether its
-// values are flat float arrays, and which declarations are flat float records.
+// Returns the results of the calls for types that are given as trees. The results are the expansion
+// of the type, whether its values are flat float arrays, and which declarations are flat float
+// records.
 fn written_lines(alloc: Global, decls: &[Decl], t: &Ty) -> Result<Vec<u8>, Memory>
     requires { AreSound decls.now }
 {
@@ -89,7 +90,7 @@ fn written_lines(alloc: Global, decls: &[Decl], t: &Ty) -> Result<Vec<u8>, Memor
     lines_in(alloc, &environment, t)
 }
 
-// Returns the same lines, given the environment of the declarations.
+// Returns the lines of `written_lines`, given the environment of the declarations.
 fn lines_in(alloc: Global, decls: &SoundEnvironment<'_>, t: &Ty) -> Result<Vec<u8>, Memory> {
     let mut out = Vec::new(alloc);
     let whole = expand(alloc, decls, t)?;

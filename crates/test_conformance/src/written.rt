@@ -5,8 +5,8 @@ use base_data::model::Memory;
 use std::alloc::Global;
 use types_spec::types::ty::TypeTreeNode;
 
-/// A type under construction: its first node, the text of the parts that were added, their number,
-/// and whether the last part is a tuple.
+/// A type under construction: the type's first node, the text of the parts added so far, the number
+/// of these parts, and whether the last part is a tuple.
 #[derive(Drop)]
 struct Partial<'a> {
     first: &'a TypeTreeNode,

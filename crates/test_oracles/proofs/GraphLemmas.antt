@@ -10,7 +10,7 @@ use Rattle.test_oracles.specs.declared.token.Token.{Token}
 use Rattle.test_oracles.specs.Token.{token_of}
 use Rattle.test_oracles.specs.Graph.{size_of, all_made}
 
--- The values of the trees with these tokens, after c objects.
+-- The values of the trees with these tokens, after `c` objects.
 abbrev pub values_from : List Encoded → ℕ → List Val
 values_from [] c = []
 values_from (t ∷ ts) c = value_of t c ∷ drop (size_of t) (values_from ts (c + made_by t))
@@ -65,7 +65,7 @@ mutual
       (objects-forest forest rest (c + made tree) h.1 ∙ ap (λ n. all_objects forest (c + made tree) ++ objects_from rest n) e)
       ∙ sym (append_assoc (objects_of tree c) (all_objects forest (c + made tree)) (objects_from rest (c + (made tree + forest_made forest))))))
 
--- The values of one tree.
+-- The tokens of one tree have one value, the root of the tree.
 pub values-all : (tree : Tree) → IsTree tree → values_from (tokens tree) 0 ≡ root tree 0 ∷ []
 values-all tree h = ap (λ ts. values_from ts 0) (sym (append-nil (tokens tree))) ∙ values-tree tree [] 0 h
 
@@ -81,7 +81,8 @@ pub record After (all left : List Token) (values : List Val) (objects : List Obj
   pub values_are : values ≡ values_from (map token_of rest) (all_made (map token_of left))
   pub objects_are : objects ≡ objects_from (map token_of rest) (all_made (map token_of left))
 
--- If all tokens are processed, and they are those of a tree, then the values are its root.
+-- If all tokens are processed, and the tokens are those of a tree, then the only value is the root
+-- of the tree.
 pub After-values : (all : List Token) (values : List Val) (objects : List Obj) (tree : Tree) → After all [] values objects → IsTree tree
     → map token_of all ≡ tokens tree → values ≡ root tree 0 ∷ []
 After-values all values objects tree h is e =

@@ -20,7 +20,7 @@ use Rattle.test_oracles.specs.Prefix.{IsDecided}
 
 -- ---- the shortest prefix
 
--- If n and m are both lengths of a shortest refused prefix, then they are equal.
+-- If `n` and `m` are lengths of a shortest refused prefix, then `n` equals `m`.
 same_count : (steps : List Step) (n m : ℕ) (r : ReadRefusal) → first_refusal n steps ≡ Some r → ((k : ℕ) → k < n → first_refusal k steps ≡ None)
     → first_refusal m steps ≡ Some r → first_refusal (m - 1) steps ≡ None → n ≡ m
 same_count steps n m r at_n below_n at_m below_m =
@@ -32,7 +32,8 @@ same_count steps n m r at_n below_n at_m below_m =
       ]
     ]
 
--- The shortest refused prefix of a header.
+-- If a prefix of a header is the shortest refused prefix, then the bytes are refused by that
+-- prefix.
 pub header_decided : (limit : ℕ) (bytes : List ℕ) (d : Decided) → IsDecided (header_refusal limit) bytes d → Judges limit bytes (refused d.count (refusal_of d.refusal))
 header_decided limit bytes d h =
     let r = refusal_of d.refusal in
@@ -53,7 +54,8 @@ module _ (limit : ℕ) (bytes header : List ℕ) (tokens : List (List ℕ)) (res
   pub length_is : length bytes ≡ length header + (length (concat tokens) + length rest)
   length_is = omega (arith, ap length here.bytes_are, length-append header (concat tokens ++ rest), length-append (concat tokens) rest)
 
-  -- The shortest refused prefix of a token.
+  -- If a prefix of a token is the shortest refused prefix, then the bytes are refused by the end of
+  -- that prefix.
   pub token_decided : (d : Decided) → IsDecided (token_refusal header tokens) rest d
       → Judges limit bytes (refused (length bytes - length rest + d.count) (refusal_of d.refusal))
   token_decided d h =
@@ -70,7 +72,7 @@ module _ (limit : ℕ) (bytes header : List ℕ) (tokens : List (List ℕ)) (res
       let n_is : length header + (length (concat tokens) + x.count) ≡ length bytes - length rest + d.count = omega (arith, length_is) in
       subst (λ n. Judges limit bytes (refused n r)) n_is (Stands-refused limit bytes header tokens rest r here x)
 
-  -- The next token is not refused and is complete.
+  -- The next token is complete, and is not refused.
   module _ (none : token_refusal header tokens rest ≡ None) (whole : raw_length rest ≤ length rest) where
     pub next_length : length header + length (concat (with_next tokens rest)) ≡ length bytes - length (after_next rest)
     next_length =
@@ -92,14 +94,15 @@ module _ (limit : ℕ) (bytes header : List ℕ) (tokens : List (List ℕ)) (res
 
 -- ---- the total length of the first tokens
 
--- The total length with one more token.
+-- The length of the first `i + 1` chunks is the length of the first `i` chunks and of one more
+-- chunk.
 pub length_more : (chunks : List (List ℕ)) (i : ℕ) (chunk : List ℕ) → i < length chunks → chunk ≡ get_or chunks i chunk
     → length (concat (take (i + 1) chunks)) ≡ length (concat (take i chunks)) + length chunk
 length_more chunks i chunk l e =
     let one : take (i + 1) chunks ≡ take i chunks ++ chunk ∷ [] = take_more chunks i chunk l ∙ ap (λ p. take i chunks ++ p ∷ []) (sym e) in
     ap (λ ps. length (concat ps)) one ∙ ap length (concat-push (take i chunks) chunk) ∙ length-append (concat (take i chunks)) chunk
 
--- The total length of the first tokens is at most that of all.
+-- The length of the first `i` chunks is at most the length of all chunks.
 pub length_within : (chunks : List (List ℕ)) (i : ℕ) → length (concat (take i chunks)) ≤ length (concat chunks)
 length_within chunks i =
     let e : length (concat chunks) ≡ length (concat (take i chunks)) + length (concat (drop i chunks)) =

@@ -3,7 +3,7 @@ use Rattle.std.proofs.Common.{ℕ, zero, suc, get_or, ◌<◌, List, [], ◌∷�
 use Rattle.std.specs.List.{AllZip}
 use Rattle.marshal_spec.specs.format.Token.{Token, Encodes}
 
--- Each byte string encodes a token.
+-- If byte strings encode tokens one by one, then each byte string encodes a token.
 pub encoded_at : (ts : List Token) (chunks : List (List ℕ)) (i : ℕ) (d : List ℕ) → AllZip Encodes ts chunks → i < length chunks
     → (t : Token) × Encodes t (get_or chunks i d)
 encoded_at [] [] i d z l = absurd (omega arith)

@@ -13,11 +13,11 @@ size_of token = of_object fields (measure_of token)
 abbrev pub all_made : List Token → ℕ
 all_made ts = sum_by made_by ts
 
--- These are the tokens of a tree.
+-- The list contains the tokens of a tree.
 abbrev pub AreTokens : List Token → Type 0
 AreTokens ts = (tree : Tree) × IsTree tree × (ts ≡ tokens tree)
 
--- The graph of each tree with these tokens.
+-- The result is the graph of each tree with these tokens.
 abbrev pub IsGraph : List Token → Graph → Type 0
 IsGraph ts graph =
     (tree : Tree) → IsTree tree → ts ≡ tokens tree

@@ -1,5 +1,5 @@
--- The meaning of a result of the code. The result has the tokens of a tree instead of the tree, so
--- a relation connects it with the definitions.
+-- The meaning of a result of the code. A result has the tokens of a tree in place of the tree, so a
+-- relation connects results with the definitions.
 use Rattle.std.specs.Prelude.{ℕ, ◌≡◌, List, map}
 use Rattle.marshal_spec.specs.format.Tree.{Tree, tokens}
 use Rattle.marshal_spec.specs.format.Judgement.{prefix, value, refused, Judges}

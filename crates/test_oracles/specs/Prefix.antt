@@ -9,14 +9,14 @@ use Rattle.test_oracles.specs.Refusal.{refusal_of}
 abbrev pub refusal_at : Context → List ℕ → Option ReadRefusal
 refusal_at c token = first_refusal (length token) (token_steps c token)
 
--- The first `count` bytes are refused, and no shorter prefix is.
+-- The first `count` bytes are refused, and no shorter prefix of the bytes is refused.
 pub record IsDecided (refuse : List ℕ → Option ReadRefusal) (bytes : List ℕ) (d : Decided)
     : Type 0 where
   pub within : d.count ≤ length bytes
   pub refused : refuse (take d.count bytes) ≡ Some (refusal_of d.refusal)
   pub fewer : (k : ℕ) → k < d.count → refuse (take k bytes) ≡ None
 
--- The shortest refused prefix. `None` means that no prefix is refused.
+-- The result is the shortest refused prefix, or `None` if no prefix is refused.
 abbrev pub FirstRefused : (List ℕ → Option ReadRefusal) → List ℕ → Option Decided → Type 0
 FirstRefused refuse bytes None = refuse bytes ≡ None
 FirstRefused refuse bytes (Some d) = IsDecided refuse bytes d

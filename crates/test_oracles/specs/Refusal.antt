@@ -11,7 +11,7 @@ use Rattle.test_oracles.specs.declared.refusal.Refusal.TheVariants.{ZeroArray, O
 use Rattle.test_oracles.specs.declared.refusal.Refusal.TheVariants.{SizeMismatch, CountMismatch}
 use Rattle.test_oracles.specs.declared.refusal.Refusal.TheVariants.{LengthMismatch}
 
--- The refusal of the definitions with the same numbers.
+-- The refusal of the definitions that has the numbers of this refusal.
 abbrev pub refusal_of : Refusal → ReadRefusal
 refusal_of (BadMagic m) = refusals.BadMagic m
 refusal_of Compressed = refusals.Compressed
@@ -30,13 +30,13 @@ refusal_of (SizeMismatch p sum stated found) = refusals.SizeMismatch p sum state
 refusal_of (CountMismatch p stated found) = refusals.CountMismatch p stated found
 refusal_of (LengthMismatch p left) = refusals.LengthMismatch p left
 
--- The refusal, if there is one.
+-- The refusal of the definitions, if the option contains a refusal.
 abbrev pub refusal_in : Option Refusal → Option ReadRefusal
 refusal_in None = None
 refusal_in (Some refusal) = Some (refusal_of refusal)
 
--- A magic number has 32 bits. Each other number that may be large has 64 bits, except for the bytes
--- needed in `Overlong`.
+-- The numbers of the refusal fit the types of a reader. A magic number has 32 bits. Each other
+-- number that may be large has 64 bits, except for the number of bytes needed in `Overlong`.
 abbrev pub IsNarrow : Refusal → Type 0
 IsNarrow (BadMagic m) = m < 2 ^ 32
 IsNarrow Compressed = Unit {0}

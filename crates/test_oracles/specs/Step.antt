@@ -8,7 +8,7 @@ use Rattle.test_oracles.specs.declared.step.Comparison.TheVariants.{Above, Other
 use Rattle.test_oracles.specs.Refusal.{refusal_in}
 use Rattle.test_oracles.specs.Sums.{sums_in}
 
--- A step, with its refusal.
+-- The step of the definitions, with its refusal.
 abbrev pub step_of : Step → Defined
 step_of s = step s.ends (refusal_in s.refusal)
 

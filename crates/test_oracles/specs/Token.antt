@@ -3,7 +3,7 @@ use Rattle.marshal_spec.specs.format.Token.{Token as Encoded, integer, atom, sha
 use Rattle.test_oracles.specs.declared.token.Token.{Token}
 use Rattle.test_oracles.specs.declared.token.Token.TheVariants.{Integer, Atom, Shared, Block, Leaf}
 
--- The same token.
+-- The token of the definitions that this token represents.
 abbrev pub token_of : Token → Encoded
 token_of (Integer z) = integer z
 token_of (Atom tag) = atom tag

@@ -65,7 +65,8 @@ fn value_of(token: &Token, c: u64) -> Val
     }
 }
 
-/// Returns the first `size` values, which are the fields of a token.
+/// Returns the first `size` values, which are the fields of a token. If there are fewer values,
+/// returns all values.
 fn first_values(values: &[Val], size: u64) -> &[Val]
     ensures { result.now ≡ take size values.now }
 {
@@ -87,7 +88,7 @@ fn values_after(values: &[Val], size: u64) -> &[Val]
     }
 }
 
-/// Inserts the object of a token with these fields before the other objects.
+/// Inserts the object of a token with these fields before the objects made so far.
 fn write_object(
     alloc: Global,
     token: Token,
@@ -108,7 +109,7 @@ fn write_object(
     Ok(())
 }
 
-/// Returns the values with one more at the beginning.
+/// Returns the values with `value` at the beginning.
 fn with_value(alloc: Global, value: Val, rest: &[Val]) -> Result<Vec<Val>, AllocError>
     ensures { IfOk result (λ values. values.items ≡ value ∷ rest.now) }
 {

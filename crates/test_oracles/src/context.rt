@@ -5,8 +5,12 @@ ghost use Rattle.test_oracles.specs.Sums.{AreFew};
 use crate::words::Sums;
 use base_data::model::header::Head;
 
-/// What precedes a token: the contents of the header, the length of the header in bytes, the number
-/// of data bytes before the token, and the sums over the tokens before.
+/// What precedes a token:
+///
+/// - `head`: the contents of the header,
+/// - `start`: the length of the header in bytes,
+/// - `taken`: the number of data bytes before the token,
+/// - `sums`: the sums over the earlier tokens.
 #[derive(Clone, Copy)]
 pub struct Context {
     pub head: Head,

@@ -5,7 +5,7 @@ ghost use Rattle.base_data.specs.model.Bytes.{number, signed as signed_number};
 
 use base_data::model::bytes::{big_endian, signed, skip};
 
-/// Returns the first `n` bytes, or all bytes if there are fewer.
+/// Returns the first `n` bytes, or all bytes if there are fewer than `n`.
 pub fn first(bytes: &[u8], n: usize) -> &[u8]
     ensures { result.now ≡ take n bytes.now }
 {
@@ -21,7 +21,7 @@ pub fn between(bytes: &[u8], from: usize, to: usize) -> &[u8]
     first(skip(bytes, from), to - from)
 }
 
-/// Returns the byte at offset `i`, or 0 if there is none.
+/// Returns the byte at offset `i`, or 0 if there is no byte at `i`.
 pub fn byte_at(bytes: &[u8], i: usize) -> u8
     ensures { result ≡ slice_index bytes.now i }
 {

@@ -1,4 +1,4 @@
-//! The header of a value (`intext.h`, `intern.c`). All numbers in it are big-endian.
+//! The header of a value (`intext.h`, `intern.c`). All numbers in a header are big-endian.
 
 ghost use Rattle.std.specs.Prelude.{◌≡◌, ◌≤◌};
 ghost use Rattle.marshal_spec.specs.format.Header.{magic, header_length, small_head, big_head};

@@ -1,16 +1,21 @@
-//! Computes what becomes of bytes directly from the definitions of the format, slowly and plainly.
+//! Computes what bytes encode directly from the definitions of the format, slowly and plainly.
 //!
-//! It owns `judge`, with `Judgement` (a prefix, a value with its tokens, or a refusal), `Token`,
-//! `Refusal`, and `graph_of`, which builds the graph of a list of tokens. `test_conformance`
-//! compares its results with the reader's.
+//! The crate owns `judge`, whose result is a `Judgement` (a prefix, a value with its tokens, or a
+//! refusal). The crate also owns `Token`, `Refusal`, and `graph_of`, which builds the graph of a
+//! list of tokens. `test_conformance` compares the results of `judge` with the results of the
+//! reader.
 //!
-//! Promises: `judge` returns what becomes of the bytes under the limit, by the definitions of
-//! `marshal_spec`: a prefix, a value that so many first bytes encode, or a refusal. `graph_of`
-//! returns a graph for the tokens of a tree. `Refusal::narrow` returns the same refusal in the
-//! form of `ReadRefusal`, if its numbers are small enough for it, and `None` otherwise.
+//! Promises:
 //!
-//! Leaves out: speed; it cuts and sums the bytes anew at each token. The reader of a run is
-//! `marshal_read`, and no run calls this crate. Types and texts have no oracle here.
+//! - `judge` returns what the bytes encode under the limit, by the definitions of `marshal_spec`.
+//!   The result is a prefix, a value that the first bytes encode, or a refusal.
+//! - `graph_of` returns a graph for the tokens of a tree.
+//! - `Refusal::narrow` returns the refusal in the form of `ReadRefusal`, if the numbers of the
+//!   refusal are small enough. Otherwise `narrow` returns `None`.
+//!
+//! Leaves out: speed. `judge` cuts the bytes and sums the tokens anew at each token. The reader of
+//! a run is `marshal_read`, and no run calls this crate. Types and texts have no oracle in this
+//! crate.
 #![tactic(auto)]
 
 mod build;

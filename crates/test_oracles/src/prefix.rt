@@ -1,4 +1,4 @@
-//! Decides if bytes can still become a value, or are refused.
+//! Decides whether bytes can still become a value, or are refused.
 
 ghost use Rattle.std.specs.Prelude.{◌≡◌, ◌<◌, ◌^◌, length, map, IfOk};
 ghost use Rattle.std.specs.List.{concat};

@@ -18,15 +18,12 @@ pub fn fixed_bytes(kind: CodeKind) -> u128
     ensures few { result < 2 ^ 8 }
 {
     match kind {
-        CodeKind::SmallBlock(_, _) => 0,
-        CodeKind::SmallInt(_) => 0,
-        CodeKind::SmallString(_) => 0,
-        CodeKind::Int(width) => u128::from(width),
-        CodeKind::Shared(width) => u128::from(width),
-        CodeKind::Block(width) => u128::from(width),
-        CodeKind::Str(width) => u128::from(width),
+        CodeKind::SmallBlock(_, _) | CodeKind::SmallInt(_) | CodeKind::SmallString(_) => 0,
+        CodeKind::Int(width) | CodeKind::Shared(width) | CodeKind::Block(width) => {
+            u128::from(width)
+        }
+        CodeKind::Str(width) | CodeKind::Doubles(width, _) => u128::from(width),
         CodeKind::Double(_) => 8,
-        CodeKind::Doubles(width, _) => u128::from(width),
         CodeKind::Custom(_) => 3,
     }
 }
@@ -38,22 +35,17 @@ pub fn field_bytes(kind: CodeKind) -> u128
     ensures few { result < 2 ^ 8 }
 {
     match kind {
-        CodeKind::SmallBlock(_, _) => 0,
-        CodeKind::SmallInt(_) => 0,
-        CodeKind::SmallString(_) => 0,
+        CodeKind::SmallBlock(_, _) | CodeKind::SmallInt(_) | CodeKind::SmallString(_) => 0,
         CodeKind::Int(8) => 8,
-        CodeKind::Int(_) => 0,
-        CodeKind::Shared(width) => u128::from(width),
-        CodeKind::Block(width) => u128::from(width),
-        CodeKind::Str(width) => u128::from(width),
-        CodeKind::Double(_) => 0,
-        CodeKind::Doubles(width, _) => u128::from(width),
+        CodeKind::Int(_) | CodeKind::Double(_) => 0,
+        CodeKind::Shared(width) | CodeKind::Block(width) => u128::from(width),
+        CodeKind::Str(width) | CodeKind::Doubles(width, _) => u128::from(width),
         CodeKind::Custom(_) => 3,
     }
 }
 
-/// Returns the length in bytes of the data of a custom value. For a `Nativeint` it depends on the
-/// kind byte.
+/// Returns the length in bytes of the data of a custom value. The length of a `Nativeint` depends
+/// on the kind byte.
 fn custom_bytes(custom: Option<CustomKind>, kind: u8) -> u128
     ensures bytes { result ≡ custom_bytes custom kind }
     ensures few { result < 2 ^ 8 }
@@ -66,7 +58,7 @@ fn custom_bytes(custom: Option<CustomKind>, kind: u8) -> u128
     }
 }
 
-/// Returns the length in bytes of the kind byte, or 0 if the custom value has none.
+/// Returns the length in bytes of the kind byte, or 0 if the custom value has no kind byte.
 fn kind_bytes(custom: Option<CustomKind>) -> u128
     ensures bytes { result ≡ kind_bytes custom }
     ensures few { result < 2 ^ 8 }
@@ -89,7 +81,7 @@ fn custom_measure(custom: Option<CustomKind>) -> Option<Measure>
     }
 }
 
-/// Returns the number of bytes after the fixed ones, for a string, an array or a custom value.
+/// Returns the number of bytes after the fixed bytes of a string, an array or a custom value.
 /// `rest` are the bytes after the code.
 pub fn variable_bytes(kind: KnownKind, rest: &[u8]) -> u128
     ensures bytes { result ≡ variable_bytes kind.kind rest.now }
@@ -121,10 +113,8 @@ pub fn measure_after(kind: KnownKind, rest: &[u8]) -> Option<Measure>
 {
     match kind.kind {
         CodeKind::SmallBlock(_, size) => block_measure(u64::from(size)),
-        CodeKind::SmallInt(_) => None,
+        CodeKind::SmallInt(_) | CodeKind::Int(_) | CodeKind::Shared(_) => None,
         CodeKind::SmallString(n) => Some(Measure::Bytes(u64::from(n))),
-        CodeKind::Int(_) => None,
-        CodeKind::Shared(_) => None,
         CodeKind::Block(width) => block_measure(number_of(rest, usize::from(width)) / 1024),
         CodeKind::Str(width) => Some(Measure::Bytes(number_of(rest, usize::from(width)))),
         CodeKind::Double(_) => Some(Measure::Double),

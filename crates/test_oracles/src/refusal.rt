@@ -13,7 +13,8 @@ pub enum Refusal {
     BadMagic(u64),
     /// The magic number is that of compressed data.
     Compressed,
-    /// The header states a number above the limit: what it states, the number, and the limit.
+    /// The header states a number above the limit. The fields are which number, the number, and the
+    /// limit.
     TooLarge(StatedNumber, u64, u64),
     /// The code begins no token.
     BadCode(u128, u8),
@@ -23,7 +24,8 @@ pub enum Refusal {
     OtherCustom(u128, u8),
     /// The tag of a block is above 243.
     BadTag(u128, u8),
-    /// The offset of a reference is invalid: the offset, and the number of objects so far.
+    /// The offset of a reference is invalid. The fields after the position are the offset, and the
+    /// number of objects so far.
     BadShared(u128, u64, u128),
     /// There is a reference, but the header states that there are no objects.
     NoTable(u128),
@@ -33,14 +35,17 @@ pub enum Refusal {
     IntRange(u128, i64),
     /// A double array has no elements.
     ZeroArray(u128),
-    /// The data is too short: the number of bytes needed, and the number of data bytes left.
+    /// The data is too short. The fields after the position are the number of bytes needed, and the
+    /// number of data bytes left.
     Overlong(u128, u128, u128),
-    /// A sum of words differs from the header: which sum, the number in the header, and the sum.
+    /// A sum of words differs from the header. The fields after the position are which sum, the
+    /// number in the header, and the sum.
     SizeMismatch(u128, WordSum, u64, u128),
-    /// The number of objects differs from the header: the number in the header, and the number of
-    /// objects.
+    /// The number of objects differs from the header. The fields after the position are the number
+    /// in the header, and the number of objects.
     CountMismatch(u128, u64, u128),
-    /// Data bytes are left after the value: their number.
+    /// Data bytes are left after the value. The field after the position is the number of these
+    /// bytes.
     LengthMismatch(u128, u128),
 }
 
@@ -54,7 +59,8 @@ impl fmt::Debug for Refusal {
 }
 
 impl Refusal {
-    /// Returns the refusal with the number types of a reader, if its numbers fit them.
+    /// Returns the refusal with the number types of a reader, if the refusal's numbers fit these
+    /// types.
     pub fn narrow(self) -> Option<ReadRefusal>
         ensures same { IfSome result (λ refusal. refusal ≡ refusal_of self) }
         ensures fits { IsSome result ↔ IsNarrow self }

@@ -10,8 +10,8 @@ use crate::header::{BIG_MAGIC, COMPRESSED_MAGIC, SMALL_MAGIC, head_of, header_le
 use crate::refusal::Refusal;
 use base_data::model::refusal::StatedNumber;
 
-/// A step: the number of bytes of the header or token that contain the fields it reads, and the
-/// refusal if it fails.
+/// A step: the number of bytes of the header or token that contain the fields read by the step, and
+/// the refusal if the step fails.
 #[derive(Clone, Copy)]
 pub struct Step {
     pub ends: u128,
@@ -44,7 +44,7 @@ pub fn fails_if(fails: bool, refusal: Refusal) -> Option<Refusal>
     if fails { Some(refusal) } else { None }
 }
 
-/// Returns the first refusal if there is one, and `next` otherwise.
+/// Returns the first refusal if `first` is a refusal, and `next` otherwise.
 pub fn or_else(first: Option<Refusal>, next: Option<Refusal>) -> Option<Refusal>
     ensures { refusal_in result ≡ or_else (refusal_in first) (refusal_in next) }
 {

@@ -1,4 +1,4 @@
-//! The tokens that bytes encode. As in `intern.c`, each width and byte order is read.
+//! The tokens that bytes encode. Each width and byte order that `intern.c` reads is read.
 
 ghost use Rattle.std.specs.Prelude.{◌≡◌, ◌*◌, ℕ, List as Seq, length, map, IfOk};
 ghost use Rattle.std.specs.List.{AllZip};
@@ -18,8 +18,8 @@ use base_data::model::value::Obj;
 use marshal_codec::codes::KnownKind;
 use std::alloc::{AllocError, Global};
 
-/// A token. A reference has the offset back from the next object. A block has its tag and size, and
-/// its fields are the values after it. A leaf is an object without fields.
+/// A token. A reference has the offset back from the next object. A block has a tag and a size, and
+/// the values after the block are its fields. A leaf is an object without fields.
 #[derive(Drop)]
 pub enum Token {
     Integer(i64),
@@ -29,7 +29,7 @@ pub enum Token {
     Leaf(Obj),
 }
 
-/// Returns a block, or an atom if there are no fields.
+/// Returns a block, or an atom if `size` is 0.
 fn block_or_atom(tag: u8, size: u64) -> Token
     ensures { token_of result ≡ block_or_atom tag size }
 {
@@ -134,7 +134,7 @@ fn token_encoded(alloc: Global, bytes: &[u8]) -> Result<Token, AllocError>
     }
 }
 
-/// Returns the tokens that the byte strings encode, one for each.
+/// Returns the tokens that the byte strings encode, one token for each byte string.
 pub fn tokens_encoded(alloc: Global, chunks: &[List<u8>]) -> Result<Vec<Token>, AllocError>
     requires { (all : Seq Encoded) × AllZip Encodes all chunks.now }
     ensures { IfOk result (λ tokens. AllZip Encodes (map token_of tokens.items) chunks.now) }

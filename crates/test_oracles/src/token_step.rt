@@ -132,7 +132,7 @@ fn native_steps(c: &Context, kind: u8) -> [Step; 3]
     ]
 }
 
-/// Appends the steps of the bytes after the fixed ones.
+/// Appends the steps of the bytes after the fixed bytes.
 fn add_variable(
     c: &Context,
     kind: KnownKind,

@@ -99,8 +99,8 @@ fn judge_bytes(alloc: Global, limit: u64, bytes: &[u8]) -> Result<Judgement, All
     judge_tokens(alloc, limit, bytes)
 }
 
-/// Returns what the bytes encode, computed from the definitions step by step. It is slow, because
-/// it computes all tokens and sums anew at each token.
+/// Returns what the bytes encode, computed from the definitions step by step. The function is slow,
+/// because it computes all tokens and sums anew at each token.
 pub fn judge(alloc: Global, limit: u64, bytes: &[u8]) -> Result<Judgement, Memory>
     ensures { IfOk result (JudgesTo limit bytes.now) }
 {

@@ -95,7 +95,7 @@ fn sum_up(tokens: &[Option<Measure>]) -> Totals
 }
 
 /// Returns the sums over these tokens. One value is pending at first. Each token is one of the
-/// pending values and adds its fields to them.
+/// pending values, and adds its fields to the pending values.
 pub fn sums_of(tokens: &[Option<Measure>]) -> Sums
     requires { length tokens.now ≤ 2 ^ 62 }
     ensures sums { sums_in result ≡ sums_of tokens.now }

@@ -1,4 +1,4 @@
-//! Tests of the byte format: codes, headers, custom values, the heap and the reader.
+//! Tests of the byte format: codes, headers, tokens, custom values, the heap and the reader.
 
 mod codes;
 mod customs;
@@ -6,3 +6,4 @@ mod hashes;
 mod headers;
 mod heaps;
 mod readers;
+mod tokens;

@@ -1,4 +1,4 @@
-//! Calls each lemma function once. Lemma functions do nothing.
+//! Calls each lemma function once. A lemma function does nothing at run time.
 
 use run_loop::examples::small_commands_report_environment;
 use text_decimal::decimal::{doubles_are_read_back, doubles_have_one_text};

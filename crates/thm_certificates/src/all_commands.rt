@@ -1,5 +1,4 @@
-//! Proves, for the whole program, that `verify` accepts what `check --cert` wrote, and prints what
-//! `check` prints. This is a law about the specifications of two calls; the crate contains no
-//! executable code.
+//! Proves a law about two calls of the whole program: `verify` accepts what `check --cert` wrote,
+//! and prints what `check` prints.
 
 pub mod laws;

@@ -1,5 +1,4 @@
--- The law for all commands follows from the law for the commands on values and the command on
--- texts.
+-- The law for all commands follows from the law for the commands on values and `build`.
 use Rattle.std.proofs.Common.{false, refl}
 use Rattle.cli_spec.specs.CommandLine.{styled_by}
 use Rattle.cli_spec.specs.Outcome.{all_under, report, the_text, own, build}

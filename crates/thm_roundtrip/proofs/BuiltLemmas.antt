@@ -1,4 +1,5 @@
--- The `build` command has one outcome for these lines: it writes the canonical bytes of the values.
+-- Given the lines that `show` printed, `build` has one outcome: the canonical bytes of the values
+-- are written.
 use Rattle.std.proofs.Common.{◌≡◌, ℕ, Bool, true, false, List, [], ◌∷◌, ◌++◌, map, Some, Ok, inl, inr, refl, sym, ap, ◌∙◌, subst, append_assoc}
 use Rattle.std.specs.Prelude.{if◌then◌else◌, IfSome}
 use Rattle.std.specs.List.{AllByRecursion}
@@ -90,7 +91,7 @@ all_built t write limit one bytes [] rest s h = tt
 all_built t write limit one bytes (tree ∷ trees) rest (first, more, is, encoded, s) h =
     (one first tree encoded h.0, all_built t write limit one more trees rest s h.1)
 
--- The texts of values do not depend on how positions are reported, or on whether decimals are read.
+-- The texts of values do not depend on the setting for positions, or on whether decimals are read.
 lines_at : (t : TypeOver) (lines decimal write : Bool) (trees : List Tree)
     → lines_of t write trees ≡ lines_of (asked_at t lines decimal) write trees
 lines_at t lines decimal write [] = refl
@@ -149,7 +150,8 @@ module _ (known : Follow (commands declared_types) (AreAsKnown (commands declare
     declared : IsDeclared contents v.read.decls
     declared = subst (λ text. IsDeclared text v.read.decls) (sym same_contents) v.read.declared
 
-    -- If decimals are read in case they were printed, then each line is built at the type.
+    -- If decimals are read or were not printed, then each value is built from the line of the
+    -- value.
     module _ (positions decimal : Bool) (reads : shows.decimal ≡ true → decimal ≡ true) where
       abbrev now : TypeOver
       now = asked_at v.t positions decimal

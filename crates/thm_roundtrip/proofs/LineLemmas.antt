@@ -1,4 +1,5 @@
--- The text of a value at a type that was read is a line from which its canonical bytes are built.
+-- The text of a value at a parsed type is a line, and the canonical bytes of the value are built
+-- from the line.
 use Rattle.std.proofs.Common.{◌≡◌, ℕ, ◌<◌, ◌^◌, Bool, true, false, true≢false, List, [], length, refl, sym, subst, arith}
 use Rattle.std.specs.Prelude.{if◌then◌else◌}
 use Rattle.marshal_spec.specs.format.Canonical.{canon}
@@ -38,13 +39,14 @@ few_objects limit bytes tree s =
 
 -- ---- decimals
 
--- A text stays on one line.
+-- If a text has no line feed, then the printed text has none, with decimals or without.
 stays_unbroken : (decimal : Bool) (text : List ℕ) → IsUnbroken text
     → IsUnbroken (if decimal then decimal_text text else text)
 stays_unbroken true text h = decimals_no_feed text h
 stays_unbroken false text h = h
 
--- If decimals are read in case they were printed, then the plain text is the same.
+-- If decimals are read or were not printed, then the plain text of the printed text is the text
+-- itself.
 same_plain : (write read : Bool) (text : List ℕ) → (write ≡ true → read ≡ true) → StandsForIt text
     → plain_if read (if write then decimal_text text else text) ≡ text
 same_plain true true text reads stands = stands.decimals
@@ -67,7 +69,7 @@ pub record IsSoundOver (t : TypeOver) : Type 0 where
   pub few : ReachesFew t.decls t.type
 
 module _ (t : TypeOver) where
-  -- The value has the type.
+  -- The value of the tree has the type `t.type`.
   abbrev pub HasIt : Tree → Type 0
   HasIt tree = HasType (declared_shapes t.decls) (objects_of tree 0) (root tree 0) t.type
 
@@ -75,11 +77,12 @@ module _ (t : TypeOver) where
   text_of tree =
       shown_text (shape t.decls) (names_of t.decls) (objects_of tree 0) (root tree 0) t.type
 
-  -- The text that is shown, with decimals or without.
+  -- The printed text of the tree's value, with decimals if `decimal` is true.
   abbrev pub shown_of : Bool → Tree → List ℕ
   shown_of decimal tree = if decimal then decimal_text (text_of tree) else text_of tree
 
-  -- The shown text is a line from which these bytes are built.
+  -- The printed text of the tree's value is one line, and the canonical bytes of the value are
+  -- built from the line.
   pub record IsBuilt (decimal : Bool) (tree : Tree) : Type 0 where
     pub one_line : IsUnbroken (shown_of decimal tree)
     pub is_made : IsMade t (plain_if t.decimal (shown_of decimal tree)) (canon tree)

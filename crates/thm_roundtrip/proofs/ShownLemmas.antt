@@ -1,5 +1,5 @@
--- A call of `show` that ended without errors: FILE and TYPE were read, the whole input is values of
--- the type, and their texts were written as lines.
+-- If a call of `show` ended without errors, then FILE and TYPE were read, and the whole input is
+-- values of the type. The texts of the values were written as lines.
 use Rattle.std.proofs.Common.{◌≡◌, ◌⊎◌, ℕ, Bool, true, false, List, [], ◌∷◌, ◌++◌, length, Some, Result, Ok, Err, inl, inr, refl, sym, ap, ◌∙◌, subst}
 use Rattle.std.specs.Prelude.{if◌then◌else◌}
 use Rattle.std.proofs.lemmas.Bool.{and_parts}
@@ -26,7 +26,7 @@ use Rattle.thm_roundtrip.proofs.OkLemmas.{Refuses, not_last, not_stopped}
 
 -- ---- FILE and TYPE
 
--- The contents of FILE, and TYPE, are read as this type.
+-- FILE contains declarations, and the text TYPE denotes the type `t` over these declarations.
 pub record AreRead (files : Fetches) (file : List ℕ) (type : AskedType) (t : TypeOver) : Type 0 where
   pub contents : List ℕ
   pub read : files 0 file ≡ opened (whole contents)
@@ -90,7 +90,8 @@ lines_of t decimal [] = []
 lines_of t decimal (tree ∷ trees) = line (shown_of t decimal tree) ++ lines_of t decimal trees
 
 module _ (t : TypeOver) (decimal : Bool) where
-  -- If the value has the type, then its text is the output.
+  -- If the output for a value has no error, then the value has the type, and the output is the
+  -- value's text as a line.
   output_ok : (tree : Tree) (output : Output) (text : List ℕ)
       → IsTypeLine (the_text (styled_by false decimal)) t (objects_of tree 0) (root tree 0) text output.ok
       → output.text ≡ line text → output.ok ≡ true
@@ -121,7 +122,8 @@ module _ (t : TypeOver) (decimal : Bool) where
 module _ (arguments : List (List ℕ)) (file type : List ℕ) (lined decimal : Bool) (limit : ℕ)
     (asks : Asks arguments (report (the_text (styled_by false decimal)) file type lined (all_under limit))) (given : Given) (all : Replies)
     (ok : (ending_of all).status ≡ AllOk) where
-  -- The whole input is values of the type, and their texts are written.
+  -- FILE and TYPE were read, the whole input is values of the type, and the texts of the values
+  -- were written as lines.
   pub record AreShown : Type 0 where
     pub t : TypeOver
     pub read : AreRead given.files file (asked_type type lined) t
@@ -135,7 +137,8 @@ module _ (arguments : List (List ℕ)) (file type : List ℕ) (lined decimal : B
     abbrev its_task : Task TypeOver ScriptLine
     its_task = task (reports (the_text (styled_by false decimal)) t) limit
 
-    -- The input ended, and the reply after all values has no output.
+    -- If a call of `show` without errors has read all values, then the input ended after them. The
+    -- last reply is the reply for the end of the input.
     at_its_end : (u : InputEnd) (items : List Item) (rest : List ℕ)
         → Closes (commands declared_types) its_task items rest u all.last
         → (u ≡ at_end) × EndsHere declared_types its_task items rest all.last
@@ -152,7 +155,8 @@ module _ (arguments : List (List ℕ)) (file type : List ℕ) (lined decimal : B
     at_clean_end trees rest (cut n) tail ends =
         absurd (not_last all ok (value (length trees) (truncated_text n)) tt ends)
 
-    -- The exit reason of the run refuses a value.
+    -- If the run ends within the input with an exit reason, then the exit reason is a refusal or a
+    -- failure.
     exit_refuses : (items : List Item) (bytes : List ℕ) (exit : Exit)
         → (commands declared_types).Exits its_task items bytes exit → Refuses exit
     exit_refuses items bytes exit s = by s.why where

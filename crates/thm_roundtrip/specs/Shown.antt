@@ -1,5 +1,5 @@
--- The output of `show` as the input of `build`: the result is the values that were shown, as their
--- canonical bytes.
+-- The output of `show` is the input of `build`: `build` writes the canonical bytes of the printed
+-- values.
 use Rattle.std.specs.Prelude.{ℕ, ◌≡◌, ◌≢◌, Bool, true, false, List, [], map, Some}
 use Rattle.std.specs.List.{concat}
 use Rattle.marshal_spec.specs.format.Canonical.{canon}
@@ -19,9 +19,9 @@ use Rattle.run_spec.specs.runs.Commands.{Commands}
 use Rattle.run_spec.specs.runs.CommandLaws.{Follow}
 use Rattle.run_spec.specs.runs.Environment.{IsHonest}
 
--- The arguments ask to show all values of the input at FILE and TYPE. Each value is under the limit
--- and printed on one line, with decimals or without. The call ended without errors. Its input, the
--- contents of FILE and its output are known.
+-- The arguments ask to show all values of the input at FILE and TYPE, with decimals or without.
+-- Each value is under the limit and is printed on one line. The call ended without errors. The
+-- input, the contents of FILE and the output of the call are known.
 pub record Shows (arguments : List (List ℕ)) (call : Call) (file type : List ℕ) (limit : ℕ)
     (contents input shown : List ℕ) : Type 0 where
   pub lines : Bool
@@ -35,9 +35,9 @@ pub record Shows (arguments : List (List ℕ)) (call : Call) (file type : List �
   pub input_is : call.input.before.bytes ≡ Some input
   pub writes : HasWritten call shown
 
--- The arguments ask to build at FILE and TYPE, with decimals or without. FILE has these contents,
--- and the whole input is what was shown. No I/O call failed, nothing is too long, and memory did
--- not run out.
+-- The arguments ask to build at FILE and TYPE, with decimals or without. FILE has the given
+-- contents, and the whole input is the text `shown`. No I/O call failed, nothing is too long, and
+-- memory did not run out.
 pub record Builds (arguments : List (List ℕ)) (call : Call) (file type contents shown : List ℕ)
     : Type 0 where
   pub lines : Bool
@@ -49,7 +49,7 @@ pub record Builds (arguments : List (List ℕ)) (call : Call) (file type content
   pub suffices : call.status ≢ Memory
 
 -- The bytes are consecutive values, each under the limit. The call wrote the canonical bytes of
--- each, in this order, and ended without errors.
+-- each value, in the order of the values, and ended without errors.
 pub record WritesCanonical (limit : ℕ) (bytes : List ℕ) (call : Call) : Type 0 where
   pub trees : List Tree
   pub values : EncodeAll limit bytes trees []
@@ -63,9 +63,9 @@ HidesNothing contents type =
     (decls : List Decl) (t : Ty) (types : List Ty) → IsDeclared contents decls
     → IsTypeOf decls type t → IsReached decls t types → NoneIsWildcard decls types
 
--- Let the first of two calls show values, and the second build what was shown at the same FILE and
--- TYPE, which reaches no `_`. If the second call reads decimals in case the first printed them,
--- then it writes the canonical bytes of these values.
+-- Suppose the first call shows values, and the second call builds the output of the first call at
+-- the same FILE and TYPE. Suppose TYPE reaches no `_`, and the second call reads decimals if the
+-- first call printed decimals. Then the second call writes the canonical bytes of the values.
 abbrev pub BuildsWhatWasShown : List (List ℕ) → Call → List (List ℕ) → Call → Type 0
 BuildsWhatWasShown arguments call later_arguments later =
     (file type : List ℕ) (limit : ℕ) (contents input shown : List ℕ)
@@ -74,7 +74,7 @@ BuildsWhatWasShown arguments call later_arguments later =
     → (builds : Builds later_arguments later file type contents shown)
     → (shows.decimal ≡ true → builds.decimal ≡ true) → WritesCanonical limit input later
 
--- The law holds for any two calls that satisfy the specifications of commands that show and of
--- commands that build.
+-- `BuildsWhatWasShown` holds for each two calls of which the first satisfies the specification `c`
+-- and the second satisfies the specification `d`.
 abbrev pub ShownTextsAreBuilt : {A B : Type 0} → Commands A → Commands B → Type 0
 ShownTextsAreBuilt c d = Follow c (λ arguments call. Follow d (BuildsWhatWasShown arguments call))

@@ -1,4 +1,4 @@
-//! The laws. Each function is a lemma function: it does nothing, and its contract is the law.
+//! The laws. A lemma function does nothing at run time: its contract is a law.
 
 ghost use Rattle.cmd_build.specs.command.Lines.{declared_texts};
 ghost use Rattle.run_spec.specs.value_commands.Tasks.{commands};
@@ -15,8 +15,8 @@ use session::all_commands_have_parts;
 use text_roundtrip::rebuild::declared_texts_are_read_back;
 use types_wellformed::declarations::known::{files_are_well_formed, types_are_sound};
 
-/// Let a call of the commands on values and a call of the command on texts satisfy their
-/// specifications. Then the second builds the values that the first printed.
+/// Suppose a call of `show` and a call of `build` satisfy the specifications of their commands.
+/// Then `build` writes the values that `show` printed.
 pub fn shown_texts_are_built()
     ensures { ShownTextsAreBuilt (commands declared_types)
         (building declared_types declared_texts) }
@@ -30,8 +30,9 @@ pub fn shown_texts_are_built()
     building_answers_once::<DeclaredTexts>();
 }
 
-/// Let two calls of the program satisfy the specification of all commands. If one takes the output
-/// of the other as its input, then it builds the values that the other printed.
+/// Suppose two calls of the program satisfy the specification of all commands. If the second call
+/// builds the output of the first call, then the second call writes the values that the first call
+/// printed.
 pub fn all_commands_build_shown_texts()
     ensures { ShownTextsAreBuilt all_commands all_commands }
 {

@@ -6,9 +6,9 @@ use marshal_codec::codes::{
     encode_shared, encode_string_len,
 };
 
-// Returns a letter for the kind of a code, and its numbers. The letter is lowercase if the code
-// itself contains its number. The number 1 means little endian, or the code of an old runtime. For
-// a code that begins no token, the letter says what is wrong.
+// Returns a letter for the kind of a code, and the numbers of the code. The letter is lowercase if
+// the code itself contains the number. The number 1 means little endian, or the code of an old
+// runtime. If a code begins no token, the letter states what is wrong.
 fn known(code: u8) -> (char, u8, u8) {
     match code_kind(code) {
         Ok(CodeKind::SmallBlock(tag, size)) => ('b', tag, size),
@@ -27,7 +27,7 @@ fn known(code: u8) -> (char, u8, u8) {
     }
 }
 
-// Codes, with their kinds by the header of the runtime.
+// Codes, with the kinds that the header of the runtime gives.
 static KINDS: [(u8, (char, u8, u8)); 35] = [
     (0x80, ('b', 0, 0)),
     (0xa1, ('b', 1, 2)),
@@ -66,7 +66,7 @@ static KINDS: [(u8, (char, u8, u8)); 35] = [
     (0x1f, ('?', 0, 0)),
 ];
 
-// From OCaml's `Marshal.to_string`.
+// Integers, with the bytes that OCaml's `Marshal.to_string` writes.
 static INTEGERS: [(i64, &[u8]); 12] = [
     (0, &[0x40]),
     (63, &[0x7f]),
@@ -85,7 +85,7 @@ static INTEGERS: [(i64, &[u8]); 12] = [
     (-4611686018427387904, &[0x03, 0xc0, 0, 0, 0, 0, 0, 0, 0]),
 ];
 
-// Returns true if the encoded bytes are these.
+// Returns true if the first `n` of the encoded bytes are `bytes`.
 fn is_encoded(encoded: ([u8; 9], usize), bytes: &[u8]) -> bool {
     let (all, n) = encoded;
     n <= all.len() && &all[..n] == bytes
@@ -96,7 +96,7 @@ fn is_integer_encoded(number: i64, bytes: &[u8]) -> bool {
         && is_encoded(encode_int(number), bytes)
 }
 
-// From OCaml's `Marshal.to_string`, as the integers.
+// The expected bytes are those of OCaml's `Marshal.to_string`.
 #[test]
 fn codes_are_known_and_encoded(rt: HostRuntime) {
     for (code, want) in &KINDS {

@@ -2,7 +2,7 @@
 
 use marshal_codec::customs::{Custom, NativeStep, encode, read_native};
 
-// From OCaml's `Marshal.to_string`, after the header.
+// Custom values, with the bytes that OCaml's `Marshal.to_string` writes after the header.
 static CUSTOMS: [(Custom, &[u8]); 4] = [
     (
         Custom::I32(-2),
@@ -29,8 +29,9 @@ fn known(step: NativeStep) -> (char, usize, i64) {
     }
 }
 
-// Data that OCaml's `Marshal.to_string` writes, some truncated and some with a byte after them, and
-// a kind that it never writes.
+// Data of a `Nativeint`, with the result of reading the data. OCaml's `Marshal.to_string` writes
+// the data; some are truncated, and some have a byte after them. OCaml never writes the kind of one
+// of them.
 static NATIVES: [(&[u8], (char, usize, i64)); 8] = [
     (&[1, 0, 0, 0, 5], ('v', 0, 5)),
     (&[1, 0xff, 0xff, 0xff, 0xfe, 7], ('v', 0, -2)),

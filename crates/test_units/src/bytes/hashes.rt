@@ -2,8 +2,8 @@
 
 use types_spec::tag_hash::hash;
 
-// The numbers that OCaml 4.13.1 stores for these tags. No tag is empty, but each byte string has a
-// hash.
+// Tags, with the numbers that OCaml 4.13.1 stores for them. No tag is empty, but each byte string
+// has a hash.
 static TAGS: [(&[u8], i64); 16] = [
     (b"A", 65),
     (b"B", 66),

@@ -7,13 +7,13 @@ static SMALL: [u8; 20] = [
     0x84, 0x95, 0xa6, 0xbe, 0, 0, 0, 5, 0, 0, 0, 2, 0, 0, 0, 7, 0, 0, 0, 6,
 ];
 
-// By hand: no value that fits into a test has a big header.
+// A big header, written by hand, because no value that fits into a test has a big header.
 static BIG: [u8; 32] = [
     0x84, 0x95, 0xa6, 0xbf, 0, 0, 0, 0, 0, 0, 0, 1, 0, 0, 0, 3, 0, 0, 0, 0, 0, 0, 1, 0, 0, 0, 0, 0,
     0, 0, 0, 9,
 ];
 
-// Returns true if the encoded bytes are these.
+// Returns true if the first `n` of the encoded bytes are `bytes`.
 fn is_encoded(encoded: ([u8; 32], usize), bytes: &[u8]) -> bool {
     let (all, n) = encoded;
     n <= all.len() && &all[..n] == bytes
@@ -33,7 +33,8 @@ fn states(bytes: &[u8], length: u64, objects: u64, w32: u64, w64: u64) -> bool {
     }
 }
 
-// The word counts in the headers that OCaml 4.13 writes for a single such value.
+// Values, with the word counts in the header that OCaml 4.13 writes for a single value of this
+// kind.
 static SIZES: [(Measure, (u64, u64)); 8] = [
     (Measure::Block(2), (3, 3)),
     (Measure::Bytes(3), (2, 2)),

@@ -6,7 +6,7 @@ use marshal_read::Reader;
 use std::alloc::{AllocError, Global};
 use std::test::Fail;
 
-// Blocks nested 100,000 deep, and a list of as many cells. Each entry has the numbers of a small
+// Blocks nested 100,000 deep, and a list of 100,000 cells. Each entry has the numbers of a small
 // header, and the tokens that are repeated before an integer.
 static DEEP: [([u32; 4], &[u8]); 2] = [
     ([100_001, 100_000, 200_000, 200_000], b"\x90"),

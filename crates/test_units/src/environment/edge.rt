@@ -79,8 +79,8 @@ fn sink_accepts<W: Write + Drop>(
     accepts(&mut sink, answers) && sink.faults() == faults
 }
 
-// Written bytes are in the file. A file that is open only for reading cannot be written, and one
-// that is open only for writing cannot be read.
+// The bytes that were written are in the file. A file that is open only for reading cannot be
+// written. A file that is open only for writing cannot be read.
 #[test]
 fn a_file_is_a_sink_and_a_source(rt: HostRuntime) -> Result<(), Fail> {
     assert!(rt; sink_accepts(File::create(&rt, "put.bytes")?, &[Ok(3), Ok(3), Ok(3)], 0));
@@ -102,7 +102,7 @@ fn a_writer_that_takes_nothing_is_a_fault(rt: HostRuntime) {
     assert!(rt; sink.write(b"") == Ok(0) && sink.faults() == 1);
 }
 
-// Returns the outcome of opening a file. Out of memory becomes an error of its own.
+// Returns the outcome of opening a file. If memory ran out, fails with `Memory`.
 fn fetched(outcome: Result<(), OpenError>) -> Result<Result<(), OpenError>, Memory> {
     match outcome {
         Err(OpenError::Memory) => Err(Memory),
@@ -110,8 +110,8 @@ fn fetched(outcome: Result<(), OpenError>) -> Result<Result<(), OpenError>, Memo
     }
 }
 
-/// A file name, the outcome of opening it, the results of the following reads, and the bytes that
-/// they return.
+/// A file name, the outcome of opening the file, the results of the reads after opening, and the
+/// bytes that the reads return.
 type FileAccess = (
     &'static str,
     Result<(), OpenError>,
@@ -119,7 +119,7 @@ type FileAccess = (
     &'static [u8],
 );
 
-// A folder can be opened, but not read.
+// Files on disk. The folder `.` can be opened, but not read.
 static ON_DISK: [FileAccess; 4] = [
     ("a.bytes", Ok(()), &[Ok(2)], b"ab"),
     ("b.bytes", Err(OpenError::Failed), &[Ok(0)], b""),
@@ -154,7 +154,8 @@ fn files_on_the_disk_are_fetched_and_taken(rt: HostRuntime) -> Result<(), Fail> 
     Ok(())
 }
 
-// By hand: opening the second file fails, and so does the third read.
+// Files in memory. Opening the second file fails, and the third read fails. The expected results
+// were worked out by hand.
 static IN_MEMORY: [FileAccess; 4] = [
     ("a.bytes", Ok(()), &[Ok(2), Ok(1), Err(Failed)], b"abc"),
     ("b.bytes", Err(OpenError::Failed), &[Ok(0)], b""),
@@ -162,7 +163,7 @@ static IN_MEMORY: [FileAccess; 4] = [
     ("a.bytes", Ok(()), &[Ok(2), Ok(1)], b"abc"),
 ];
 
-// Returns true if files in memory give these results, and name the file that failed to open.
+// Returns true if files in memory give these results, and report the file that failed to open.
 fn memory_fetches(alloc: Global) -> Result<bool, Memory> {
     let name = String::from_str(alloc, "a.bytes")?;
     let mut pairs = Vec::new(alloc);
@@ -198,7 +199,7 @@ fn errors_convert_and_print(rt: HostRuntime) -> Result<(), Fail> {
     Ok(())
 }
 
-// A reader and a writer whose first call fails. Each later call reads or writes one byte.
+// A reader and a writer. The first call fails, and each later call reads or writes one byte.
 #[derive(Drop)]
 struct FailsOnce {
     is_first: bool,

@@ -13,8 +13,8 @@ use run_loop::work::Work;
 use std::alloc::{AllocError, Global};
 use std::test::Fail;
 
-/// A small command: it repeats lines, takes bytes up to a refused one, or prints a text without
-/// input.
+/// A small command. The command repeats lines, takes bytes up to a refused byte, or prints a text
+/// without input.
 #[derive(Clone, Copy)]
 enum Small {
     Lines,
@@ -28,7 +28,7 @@ fn input_of(alloc: Global, text: &[u8]) -> Result<MemSource, AllocError> {
     Ok(MemSource::new(bytes, 2, Vec::new(alloc)))
 }
 
-// Returns the code of a status, unless memory ran out.
+// Returns the code of a status, and fails with `Memory` if memory ran out.
 fn code(status: Status) -> Result<u8, Memory> {
     match status {
         Status::Memory => Err(Memory),
@@ -36,7 +36,7 @@ fn code(status: Status) -> Result<u8, Memory> {
     }
 }
 
-// Runs a command over an input, and returns the code of its status.
+// Runs a command over an input, and returns the code of the run's status.
 fn run_small(
     alloc: Global,
     small: Small,
@@ -52,7 +52,7 @@ fn run_small(
     }
 }
 
-// Returns the code of the status, if out and err have these texts.
+// Returns the code of the run's status, if the outputs of the run are these texts.
 fn code_of(
     alloc: Global,
     small: Small,
@@ -70,9 +70,9 @@ fn code_of(
     }
 }
 
-// A command, its input, its output on out and on err, and the code of its status. By hand: the last
-// line has no line feed, the third byte is refused or none is, and nothing is taken of the last
-// input.
+// A command, its input, its output on out and on err, and the code of its status. The expected
+// results were worked out by hand. Cases: the last line has no line feed, the third byte is
+// refused, no byte is refused, and nothing is taken of the input.
 static RUNS: [(Small, &[u8], &[u8], &[u8], u8); 4] = [
     (Small::Lines, b"one\n\ntwo", b"one\n\ntwo\n", b"", 0),
     (
@@ -86,8 +86,7 @@ static RUNS: [(Small, &[u8], &[u8], &[u8], u8); 4] = [
     (Small::Reporting(b"told"), b"abca", b"told", b"", 0),
 ];
 
-// Returns true if a command that reads nothing takes none of these buffered bytes and prints
-// nothing.
+// Returns true if a command that reads nothing takes none of the buffered bytes and prints nothing.
 fn feeds_nothing(alloc: Global, buffered: &[u8]) -> Result<bool, Memory>
     requires { 0 < length buffered.now }
 {
@@ -96,15 +95,15 @@ fn feeds_nothing(alloc: Global, buffered: &[u8]) -> Result<bool, Memory>
     Ok(matches!(fed, Ok(0)) && out.written().is_empty())
 }
 
-// Returns the status of a run that ends because a type has too many types, after writing its line
-// to err.
+// Runs `report_exit` for a type that reaches too many types. Returns the status, and writes the
+// error line to err.
 fn reported(alloc: Global, err: &mut MemSink) -> Status {
     let exit = refused_type(alloc, b"TooManyTypes");
     report_exit(alloc, err, &exit)
 }
 
-// Returns the code of that status, if err has the line. No stored run has such a type, because its
-// table takes long to build.
+// Returns the code of the status for a type that reaches too many types, if err has the error line.
+// No stored run has a type with too many types, because the table of the type takes long to build.
 fn refused_code(alloc: Global) -> Result<Option<u8>, Memory> {
     let mut err = MemSink::new(alloc, 100, Vec::new(alloc))?;
     let code = code(reported(alloc, &mut err))?;
@@ -115,7 +114,7 @@ fn refused_code(alloc: Global) -> Result<Option<u8>, Memory> {
     }
 }
 
-// From the table of statuses.
+// The expected code is that of the table of statuses.
 #[test]
 fn a_refused_type_is_known(rt: HostRuntime) -> Result<(), Fail> {
     assert!(rt; refused_code(rt.alloc())? == Some(3));

@@ -1,6 +1,6 @@
 //! Tests of sizes that do not fit a 32-bit machine, and of a sink that fails while a value is
-//! written for one. Values that OCaml wrote are written again in `test_conformance`, which also
-//! tests the integers at the bounds of 31 and 32 bits, and failing sinks.
+//! written for a 32-bit machine. `test_conformance` tests values that OCaml wrote, the integers at
+//! the bounds of 31 and 32 bits, and failing sinks.
 
 use base_data::model::Memory;
 use base_data::model::value::Val;
@@ -18,7 +18,8 @@ enum Large {
     Doubles,
 }
 
-// Appends a large object: it has one field, byte or double more than `extern.c` allows on 32 bits.
+// Appends a large object. The object has one field, byte or double more than `extern.c` allows on
+// 32 bits.
 fn add_large(heap: &mut Heap, large: Large) -> Result<u64, Memory> {
     match large {
         Large::Block => heap.add_block(0, 0x40_0000),
@@ -27,7 +28,7 @@ fn add_large(heap: &mut Heap, large: Large) -> Result<u64, Memory> {
     }
 }
 
-// Returns the error of writing a value for 32 bits, which is only about its size.
+// Returns the error of writing a value for 32 bits, if the value is too large.
 fn known(written: Result<(), Write32Error>) -> Result<(char, u64), Memory> {
     match written {
         Err(Write32Error::Memory) => Err(Memory),
@@ -63,7 +64,7 @@ fn known_of_full(alloc: Global) -> Result<(char, u64, u64), Memory> {
     }
 }
 
-// By hand.
+// The expected results were worked out by hand.
 #[test]
 fn what_cannot_be_written_for_32_bits_is_known(rt: HostRuntime) -> Result<(), Fail> {
     assert!(rt; written32(rt.alloc(), Large::Block)? == ('b', 0x40_0000, 0));

@@ -93,7 +93,7 @@ fn write_lexemes(text: &mut String, lexemes: &[Lexeme]) -> Result<(), AllocError
     Ok(())
 }
 
-// Returns true if this is the text of the lexemes.
+// Returns true if `want` is the text of the lexemes.
 fn are_known(alloc: Global, lexemes: &[Lexeme], want: &str) -> Result<bool, Memory> {
     let mut known = String::new(alloc);
     write_lexemes(&mut known, lexemes)?;
@@ -124,7 +124,7 @@ fn next_known(alloc: Global, text: &[u8], from: usize) -> Result<String, Memory>
     Ok(known)
 }
 
-// Returns the name and the offset of the fault of a text.
+// Returns the name and the offset of the first lexical error of a text.
 fn fault_of(alloc: Global, text: &[u8]) -> Result<(&'static str, usize), Memory> {
     match tokens(alloc, text) {
         Ok(_) => Ok(("none", 0)),
@@ -136,8 +136,8 @@ fn fault_of(alloc: Global, text: &[u8]) -> Result<(&'static str, usize), Memory>
     }
 }
 
-// The values and positions that the lexer of OCaml 4.13.1 gives. Forms that are not OCaml's, or
-// that it reads differently, are by hand.
+// Texts, with their lexemes. The values and positions are those of the lexer of OCaml 4.13.1.
+// Lexemes that OCaml does not have, or that OCaml reads in another way, were worked out by hand.
 static LEXEMES: [(&str, &str); 44] = [
     (
         "type t = A of int * string | B",
@@ -196,7 +196,7 @@ static LEXEMES: [(&str, &str); 44] = [
     ("x(*y*)z", "lower x @0+1;lower z @6+1;"),
     ("(***)1", "int plus 1 Absent @5+1;"),
     ("\t\r\n\u{c}x", "lower x @4+1;"),
-    // Forms that are not OCaml's, or that it reads differently.
+    // Lexemes that OCaml does not have, or that OCaml reads in another way.
     ("'a 'b", "variable a @0+2;variable b @3+2;"),
     ("'type", "variable type @0+5;"),
     ("`A `b `type", "tag A @0+2;tag b @3+2;tag type @6+5;"),
@@ -222,7 +222,7 @@ static LEXEMES: [(&str, &str); 44] = [
     ("(* \" ' *)", ""),
 ];
 
-// Faults at edges. By hand.
+// Texts with lexical errors at their edges. The expected results were worked out by hand.
 static FAULTS: [(&[u8], (&str, usize)); 11] = [
     (b"--1", ("BadByte", 0)),
     (b"'\n'", ("BadByte", 0)),
@@ -237,7 +237,8 @@ static FAULTS: [(&[u8], (&str, usize)); 11] = [
     (b"\xc3\xa9", ("BadByte", 0)),
 ];
 
-// A text, an offset in it, and the next lexeme after it. By hand.
+// A text, an offset in the text, and the next lexeme after the offset. The expected results were
+// worked out by hand.
 static NEXT: [(&[u8], usize, &str); 5] = [
     (b"(* a *) x 12l", 0, "lower x @8+1;"),
     (b"(* a *) x 12l", 9, "int plus 12 Int32 @10+3;"),

@@ -1,5 +1,5 @@
-//! Tests of values with more than 2^16 parts, whose bytes no stored question contains. Beyond that
-//! number, the checker stores the index of a part in more bytes.
+//! Tests of values with more than 2^16 parts, whose bytes no stored question contains. The checker
+//! stores the index of a part beyond 2^16 in more bytes.
 
 ghost use Rattle.std.specs.Prelude.{◌<◌, length};
 ghost use Rattle.base_data.specs.model.Graph.{IsValue};
@@ -14,7 +14,7 @@ use std::test::Fail;
 use types_spec::types::fault::Fault;
 use types_table::type_table::TypeTable;
 
-// An array of 65,537 lists. All are empty except the last, which has one string.
+// An array of 65,537 lists. All lists are empty except the last list, which has one string.
 const PREFIX: &[u8] =
     b"\x84\x95\xa6\xbe\0\x01\0\x09\0\0\0\x03\0\x01\0\x07\0\x01\0\x07\x08\x04\0\x04\0";
 
@@ -54,7 +54,7 @@ fn is_checked(
     }
 }
 
-// Makes the same test for the array with a far list, at the type of a text.
+// Tests the array whose last list is not empty, at the type of a text, with `is_checked`.
 fn is_far_checked(
     alloc: Global,
     text: &[u8],
@@ -71,7 +71,8 @@ fn is_far_checked(
     }
 }
 
-// By hand: the array, the list and the string each occur at one type.
+// The array, the list and the string occur at one type each. The expected results were worked out
+// by hand.
 #[test]
 fn far_parts_are_checked(rt: HostRuntime) -> Result<(), Fail> {
     assert!(rt; is_far_checked(rt.alloc(), b"string list array", 3, b"")?);

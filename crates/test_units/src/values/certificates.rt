@@ -1,5 +1,5 @@
-//! Tests of the certificate entry that proves a verdict, and of certificates that are read as a
-//! whole, which no run does.
+//! Tests of the certificate entry that proves a verdict, and of the function that reads a
+//! certificate as a whole, which no run calls.
 
 ghost use Rattle.std.specs.Prelude.{◌<◌, length};
 ghost use Rattle.base_data.specs.model.Graph.{IsValue};
@@ -52,7 +52,7 @@ fn certified_in(alloc: Global, table: &TypeTable) -> Result<Option<bool>, Memory
     }
 }
 
-// Returns the verdict on the list at a type that its own entry proves.
+// Returns the verdict on the list at a type, as the list's own certificate entry proves it.
 fn answer(alloc: Global, text: &[u8]) -> Result<Option<bool>, Memory> {
     match table_in(alloc, b"", text)? {
         Some(table) => certified_in(alloc, &table),
@@ -60,7 +60,7 @@ fn answer(alloc: Global, text: &[u8]) -> Result<Option<bool>, Memory> {
     }
 }
 
-// Returns the first line of a text that is not valid in a certificate.
+// Returns the number of the first faulty line of a certificate, if a line is faulty.
 fn faulty_line(alloc: Global, text: &[u8]) -> Result<Option<usize>, Memory> {
     match read_cert(alloc, text) {
         Ok(_) => Ok(None),
@@ -69,7 +69,7 @@ fn faulty_line(alloc: Global, text: &[u8]) -> Result<Option<usize>, Memory> {
     }
 }
 
-// By hand.
+// The expected results were worked out by hand.
 #[test]
 fn verdicts_are_shown_and_certificates_read(rt: HostRuntime) -> Result<(), Fail> {
     assert!(rt; answer(rt.alloc(), b"int list")? == Some(true));

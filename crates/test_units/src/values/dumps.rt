@@ -1,5 +1,5 @@
-//! Tests of the lines of a graph as they are written to a sink. The program does this in its own
-//! code.
+//! Tests of the lines of a graph as they are written to a sink. The program writes the lines with
+//! code of its own.
 
 use base_data::model::value::Val;
 use base_io::MemSink;
@@ -7,7 +7,7 @@ use marshal_heap::heap::{Heap, Rooted};
 use std::test::Fail;
 use text_print::print::dump;
 
-// By hand: a block of tag 3 with two fields, which is the root.
+// The value is a block of tag 3 with two fields. The expected lines were worked out by hand.
 #[test]
 fn lines_are_written(rt: HostRuntime) -> Result<(), Fail> {
     let alloc = rt.alloc();

@@ -13,7 +13,7 @@ use types_spec::types::ty::Ty;
 use types_table::type_table::TypeTable;
 use types_wellformed::declarations::{DeclFault, read_decls, read_type};
 
-// OCaml's encoding of [1; 2], with the objects from the outermost to the innermost.
+// OCaml's encoding of `[1; 2]`. The outermost object comes first.
 pub(crate) const LIST: &[u8] =
     b"\x84\x95\xa6\xbe\0\0\0\x05\0\0\0\x02\0\0\0\x06\0\0\0\x06\xa0\x41\xa0\x42\x40";
 
@@ -47,7 +47,7 @@ pub(crate) fn table_in(
     }
 }
 
-// Returns the value that the bytes encode, if it is one of at most `limit` 64-bit words.
+// Returns the value that the bytes encode, if the value has at most `limit` 64-bit words.
 pub(crate) fn value_of(alloc: Global, limit: u64, bytes: &[u8]) -> Result<Option<Value>, Memory>
     ensures { IfOk result
         (λ found. IfSome found (λ value. IsValue (length value.heap) value.root)) }

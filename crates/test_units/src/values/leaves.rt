@@ -1,5 +1,5 @@
-//! Tests of the texts of values: a string whose bytes are in memory. The program prints strings
-//! word by word, which `test_conformance` tests.
+//! Tests of the text of a string whose bytes are in memory. The program prints strings word by
+//! word, which `test_conformance` tests.
 
 use std::test::Fail;
 use text_print::leaves::write_string;

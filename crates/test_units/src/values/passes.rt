@@ -1,5 +1,5 @@
-//! Tests of the streaming check on bytes in one chunk or two: it decides if they begin with a value
-//! of a type.
+//! Tests of the streaming check on bytes in one chunk or in two chunks. The streaming check decides
+//! whether the bytes begin with a value of a type.
 
 ghost use Rattle.types_table.specs.type_table.Made.{table_of};
 ghost use Rattle.check_stream.specs.chunks.StreamCheck.{IsStreamCheck};
@@ -34,8 +34,14 @@ const MAP: &[u8] =
     b"\x84\x95\xa6\xbe\0\0\0\x24\0\0\0\x08\0\0\0\x22\0\0\0\x20\xd0\xd0\x40\x24four\x44\x40\x41\x23\
     one\x41\xd0\xd0\x40\x25three\x43\x40\x41\x23two\x42\x40\x42\x43";
 
-// "ab", 1000000 and -1000000, the empty array, a pair with the same "ab" twice, and a pair with the
-// same record of 1 and 2 twice.
+// Encodings of six values:
+//
+// - `"ab"`,
+// - 1000000,
+// - -1000000,
+// - the empty array,
+// - a pair with one `"ab"` twice,
+// - a pair with one record of 1 and 2 twice.
 const TEXT: &[u8] = b"\x84\x95\xa6\xbe\0\0\0\x03\0\0\0\x01\0\0\0\x02\0\0\0\x02\x22ab";
 
 const LARGE: &[u8] = b"\x84\x95\xa6\xbe\0\0\0\x05\0\0\0\0\0\0\0\0\0\0\0\0\x02\0\x0f\x42\x40";
@@ -49,7 +55,7 @@ const TEXTS: &[u8] = b"\x84\x95\xa6\xbe\0\0\0\x06\0\0\0\x02\0\0\0\x05\0\0\0\x05\
 const RECORDS: &[u8] =
     b"\x84\x95\xa6\xbe\0\0\0\x06\0\0\0\x02\0\0\0\x06\0\0\0\x06\xa0\xa0\x41\x42\x04\x01";
 
-// "ab", and twice the same record of 1, this "ab" and the empty array.
+// The encoding of a triple: `"ab"`, and twice one record of 1, that `"ab"` and the empty array.
 const MIXED: &[u8] =
     b"\x84\x95\xa6\xbe\0\0\0\x0b\0\0\0\x03\0\0\0\x0a\0\0\0\x0a\xb0\x22ab\xb0\x41\x04\x02\x80\x04\
     \x01";
@@ -76,8 +82,9 @@ const NATIVE: &[u8] =
 const BLUE: &[u8] =
     b"\x84\x95\xa6\xbe\0\0\0\x07\0\0\0\x01\0\0\0\x03\0\0\0\x03\xa0\x02\x2b\xf2\x6e\xba\x43";
 
-// FILE, TYPE, bytes, and the length of the value in bytes if one streaming check shows that it has
-// the type. A record that occurs at two types passes if it is mutable at neither.
+// FILE, TYPE and bytes. If one streaming check shows that the value has the type, the last part is
+// the length of the value in bytes. A record that occurs at two types is accepted if it is mutable
+// at neither type.
 static INSPECTS: [(&[u8], &[u8], &[u8], Option<usize>); 27] = [
     (b"", b"int list", LIST, Some(25)),
     (b"", b"bool list", LIST, None),
@@ -128,8 +135,9 @@ static INSPECTS: [(&[u8], &[u8], &[u8], Option<usize>); 27] = [
     ),
 ];
 
-// Returns how many bytes of the first of two chunks are kept, how many of the second end the value,
-// and whether the value has the type or one mismatch. Neither chunk may contain the whole value.
+// Returns how many bytes of the first chunk are kept, and how many bytes of the second chunk end
+// the value. Also returns whether the value has the type or one mismatch. Neither chunk may contain
+// the whole value.
 fn inspected_on<'a>(
     alloc: Global,
     table: &'a TypeTable,
@@ -150,7 +158,7 @@ fn inspected_on<'a>(
     }
 }
 
-// Returns the same result for a streaming check that begins with the first chunk.
+// Returns the result of `inspected_on` for a streaming check that begins with the first chunk.
 fn inspected_in_two(
     alloc: Global,
     table: &TypeTable,
@@ -161,8 +169,9 @@ fn inspected_in_two(
     inspected_on(alloc, table, &mut stream_check, first, second)
 }
 
-// Returns the same result for a streaming check that has already read values with one mismatch
-// each. After eight of them, it searches a value for its mismatch before it checks the value.
+// Returns the result of `inspected_on` for a streaming check that has already read values with one
+// mismatch each. After eight of these values, the streaming check searches a value for its mismatch
+// before it checks the value.
 fn inspected_after_mismatches(
     alloc: Global,
     table: &TypeTable,
@@ -178,7 +187,8 @@ fn inspected_after_mismatches(
     inspected_on(alloc, table, &mut stream_check, first, second)
 }
 
-// Returns true if both give this result at the type of a text.
+// Returns true if `inspected_in_two` and `inspected_after_mismatches` give this result at the type
+// of a text.
 fn are_inspected_in_two(
     alloc: Global,
     text: &[u8],
@@ -194,9 +204,14 @@ fn are_inspected_in_two(
     Ok(fresh == want && after == want)
 }
 
-// TYPE, two chunks, and the result. The cases are a string split in its bytes, a string split in
-// its header, a list split between two tokens, a string at another type, a list with one string
-// instead of an integer, and a list with two strings.
+// TYPE, two chunks, and the result. The cases are:
+//
+// - a string split in its bytes,
+// - a string split in its header,
+// - a list split between two tokens,
+// - a string at another type,
+// - a list with one string instead of an integer,
+// - a list with two strings.
 static INSPECTS_IN_TWO: [(&[u8], &[u8], &[u8], Option<(usize, usize, bool)>); 6] = [
     (
         b"string",

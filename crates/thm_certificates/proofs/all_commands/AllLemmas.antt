@@ -1,5 +1,4 @@
--- The law for all commands follows from the law for the command that certifies and the one that
--- verifies.
+-- The law for all commands follows from the law for `check --cert` and `verify`.
 use Rattle.std.proofs.Common.{◌≡◌, Some, refl}
 use Rattle.cli_spec.specs.CommandLine.{certify}
 use Rattle.cli_spec.specs.Outcome.{Request, all_under, own, verify}
@@ -8,7 +7,7 @@ use Rattle.thm_certificates.specs.certified.Certified.{WrittenCertificatesAreAcc
 use Rattle.session.specs.All.{on_certificates, on_certificates_after, on_certified, on_certified_after, all_commands, IsOfCertificates, IsOfSections, IsPart}
 use Rattle.session.proofs.PartLemmas.{part_at_once}
 
--- If a request asks to certify values, then it is for the command that certifies.
+-- If a request asks to certify values, then the request is for `check --cert`.
 of_sections : (request : Request) (asked : Asked) → certified_by request ≡ Some asked
     → IsOfSections request
 of_sections (own (certify file type lines reading)) asked is = tt

@@ -1,5 +1,4 @@
--- The `verify` command has one outcome for the output of `check --cert`: it prints the lines of
--- `check`.
+-- Given the output of `check --cert`, `verify` has one outcome: the lines of `check` are written.
 use Rattle.std.proofs.Common.{◌≡◌, ℕ, ◌+◌, ◌<◌, ◌≤◌, ◌^◌, List, [], ◌∷◌, ◌++◌, length, Some, Ok, inl, inr, refl, sym, ap, ◌∙◌, subst, arith}
 use Rattle.std.specs.Prelude.{IfSome, slice_get}
 use Rattle.base_data.specs.model.Bytes.{AreBytes}
@@ -126,7 +125,7 @@ module _ (known : Follow on_certified (AreAsKnown on_certified)) (lawful : AreLa
     module _ (later_arguments : List (List ℕ)) (later : Call) (later_reports : ReportsBytes later.input)
         (v : Verifies later_arguments later asked contents input certificate)
         (o : HasOutcome on_certificates later_arguments later input v.files) where
-      -- The type, with positions reported as the later call asks.
+      -- The type of the first call, with the setting for positions of the later call.
       abbrev later_asked : AskedType
       later_asked = asked_type asked.type.text v.lines
 

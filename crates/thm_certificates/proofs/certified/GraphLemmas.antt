@@ -1,5 +1,5 @@
--- An encoded value has few objects, each object has few fields, and no reference points after the
--- objects.
+-- An encoded value has few objects, each object has few fields, and each reference leads to one of
+-- the objects.
 use Rattle.std.proofs.Common.{◌≡◌, ℕ, zero, suc, ◌+◌, ◌<◌, ◌≤◌, ◌^◌, List, [], ◌∷◌, length, Some, length-append, arith, subst}
 use Rattle.std.specs.Prelude.{slice_get}
 use Rattle.std.specs.List.{AllByRecursion}
@@ -16,13 +16,13 @@ use Rattle.marshal_spec.proofs.format.Counts.{length-roots, trees_in-le}
 use Rattle.marshal_spec.proofs.format.EncodeValues.{bytes_of_tokens}
 use Rattle.types_spec.specs.types.Typing.{values_of, field_at}
 
--- The value does not refer to an object after object n.
+-- If the value is a reference, then its object number is at most `n`.
 abbrev pub IsUpTo : ℕ → Val → Type 0
 IsUpTo n (vals.Int z) = Unit {0}
 IsUpTo n (vals.Atom tag) = Unit {0}
 IsUpTo n (vals.Ref o) = o ≤ n
 
--- The object has at most n values, and none of them refers to an object after n.
+-- The object has at most `n` values, and none of the values refers to an object after object `n`.
 pub record IsFew (n : ℕ) (object : Obj) : Type 0 where
   pub many : length (values_of object) ≤ n
   pub up_to : AllByRecursion (IsUpTo n) (values_of object)
@@ -121,7 +121,8 @@ one_of P [] i x h at = absurd (none-some x at)
 one_of P (y ∷ xs) zero x h at = subst P (same_Some y x at) h.0
 one_of P (y ∷ xs) (suc i) x h at = one_of P xs i x h.1 at
 
--- Each field has a small index, and does not refer to an object after object n.
+-- Each field of an object in the graph has an index below `n`, and does not refer to an object
+-- after object `n`.
 abbrev pub AreFew : ℕ → List Obj → Type 0
 AreFew n graph =
     (o i : ℕ) (w : Val) → field_at graph o i ≡ Some w → (i < n) × IsUpTo n w

@@ -1,4 +1,4 @@
--- The certificate entries of values give the lines of `check`, and none of them is rejected.
+-- The certificate entries of values give the lines of `check`, and none of the entries is rejected.
 use Rattle.std.proofs.Common.{◌≡◌, ℕ, suc, ◌+◌, List, [], ◌∷◌, ◌++◌, length, Some, None, inl, inr, refl, sym, ap, ◌∙◌, subst, arith}
 use Rattle.std.specs.Prelude.{◌&&◌, slice_get}
 use Rattle.marshal_spec.specs.format.Tree.{Tree, root, objects_of}
@@ -24,7 +24,7 @@ sections_many t (tree ∷ trees) (s ∷ all) h = ap suc (sections_many t trees a
 
 module _ (shown : CertifiedAreShown) (a : Verification TypeOver Section)
     (given : IsGiven declared_types a.type) where
-  -- These are the entries from index k on.
+  -- Element `j` of the list is entry `k + j` of the certificate.
   abbrev AreFrom : ℕ → List Section → Type 0
   AreFrom k all =
       (j : ℕ) (s : Section) → slice_get all j ≡ Some s → slice_get a.sections (k + j) ≡ Some s
@@ -41,7 +41,7 @@ module _ (shown : CertifiedAreShown) (a : Verification TypeOver Section)
       let same : k + suc j ≡ suc k + j = omega arith in
       subst (λ n. slice_get a.sections n ≡ Some next) same (from (suc j) next at)
 
-  -- The entry of the value with this index.
+  -- The entry is the certificate entry of the tree's value at the type.
   abbrev IsOf : Tree → Section → Type 0
   IsOf tree section = IsSectionOf a.type (objects_of tree 0) (root tree 0) section
 
@@ -67,7 +67,8 @@ module _ (shown : CertifiedAreShown) (a : Verification TypeOver Section)
 
   -- ---- output
 
-  -- The line of `check`, which agrees with the entry.
+  -- The output is the line of `check` for the tree's value. The output is without errors if and
+  -- only if the entry states that the value has the type.
   pub record IsLine (tree : Tree) (section : Section) (output : Output) : Type 0 where
     pub text : List ℕ
     pub outputs : IsTypeLine the_verdict a.type (objects_of tree 0) (root tree 0) text output.ok
@@ -97,7 +98,8 @@ module _ (shown : CertifiedAreShown) (a : Verification TypeOver Section)
         ok = ok ∙ ap is_yes (sym same);
       }
 
-  -- All lines after those of the earlier values, and whether all values have the type.
+  -- The outputs are the lines of `check` for `trees`, which follow the values `earlier`. The
+  -- outputs are without errors if and only if each entry states that its value has the type.
   abbrev pub AreLines : (earlier trees : List Tree) → List Section → List Output → Type 0
   AreLines earlier trees all output =
       AllPrint declared_types (reports the_verdict a.type) earlier trees output

@@ -1,5 +1,5 @@
--- If a path leads through a value with few objects, then its steps and the object that it reaches
--- are small numbers.
+-- If a path leads through a value with few objects, then the steps of the path and the number of
+-- the reached object are small.
 use Rattle.std.proofs.Common.{◌≡◌, ℕ, ◌<◌, List, [], ◌∷◌, Option, Some, None, ap, subst}
 use Rattle.std.specs.Prelude.{option_map}
 use Rattle.std.specs.List.{AllByRecursion}

@@ -35,7 +35,8 @@ module _ (reached_accepted : ReachedAreAccepted) (not_accepted : RejectedAreNotA
     (sound : IsSoundType t.decls t.type) (graph : List Obj) (v : Val) where
   -- ---- a value that has the type
 
-  -- With the table of its entry, the answer is yes.
+  -- If pairs certify that the value has the type, then the verifier's answer to the entry of the
+  -- pairs is `Yes`.
   answers_yes :
       (pairs : List (ℕ × ℕ)) → CertifiesType t graph v pairs
       → Answers t (sections.Pairs pairs) graph v Yes
@@ -67,7 +68,7 @@ module _ (reached_accepted : ReachedAreAccepted) (not_accepted : RejectedAreNotA
 
   -- ---- a value with a fault
 
-  -- If paths are a fault, then there is no reason to reject them.
+  -- If paths are a fault of the value, then the entry of the fault is accepted.
   fault_accepted :
       (fault : Fault) (table : Table) → IsFault (table_shapes table) graph v 0 fault
       → IsAccepted table graph v (fault_section fault)
@@ -99,7 +100,8 @@ module _ (reached_accepted : ReachedAreAccepted) (not_accepted : RejectedAreNotA
     by : IsVerified k.rejected.table graph v (fault_section fault) (Rejected k.why) → ⊥
     by verified = of fault verified accepted
 
-  -- The entry proves the fault that it states.
+  -- If the verifier's answer to the entry of a fault is `No`, then the answer states the fault of
+  -- the entry.
   stated :
       (fault shown : Fault) → Answers t (fault_section fault) graph v (No shown) → shown ≡ fault
   stated (faults.Mismatch path) shown h = by h.verified where

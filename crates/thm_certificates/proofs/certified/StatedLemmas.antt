@@ -29,12 +29,12 @@ use Rattle.cmd_certify.specs.command.Certified.{IsSectionOf}
 use Rattle.thm_certificates.proofs.certified.GraphLemmas.{IsSmall, encoded_small}
 use Rattle.thm_certificates.proofs.certified.PositionLemmas.{path_small}
 
--- These are the entries of the values, one for each value.
+-- The list contains the certificate entry of each value, in the order of the values.
 abbrev pub AreSections : TypeOver → List Tree → List Section → Type 0
 AreSections t trees all =
     AllZip (λ tree section. IsSectionOf t (objects_of tree 0) (root tree 0) section) trees all
 
--- The entries do not depend on how positions are reported.
+-- The entries of values do not depend on the setting for positions.
 pub sections_lined : (t : TypeOver) (lines : Bool) (trees : List Tree) (all : List Section)
     → AreSections t trees all → AreSections (lined t lines) trees all
 sections_lined t lines [] [] h = h
@@ -82,7 +82,7 @@ module _ (tree : Tree) (small : IsSmall tree) where
 
 -- ---- types
 
--- The least type of a class is at most the first index that is not in the table.
+-- If type `u` is the least type of its class, then `u` is at most the number of types in the table.
 least_type : (table : Table) (u : ℕ) → IsLeast table u → u ≤ length table.classes
 least_type table u least = by (nat_lt (length table.classes) u) refl where
   by : (past : Bool) → nat_lt (length table.classes) u ≡ past → u ≤ length table.classes

@@ -1,5 +1,5 @@
--- If each value has an entry that is not rejected, and no entry is left over, then there is output
--- for each value.
+-- If each value has an entry that is not rejected, and the certificate has no further entry, then
+-- there is output for each value.
 use Rattle.std.proofs.Common.{◌≡◌, ◌⊎◌, ◌+◌, ℕ, suc, List, [], ◌∷◌, length, inl, inr, refl, sym, ap, ◌∙◌, subst, length-append, arith}
 use Rattle.std.specs.Prelude.{if◌then◌else◌}
 use Rattle.std.proofs.lemmas.Bool.{le-ltb}
@@ -26,23 +26,24 @@ none_encoded limit bytes tree trees rest none (first, more, is, encoded, s) =
     omega (arith, some, both)
 
 module _ {T S : Type 0} (ShownBy : T → S → Tree → Shown → Type 0) (a : Verification T S) where
-  -- The value with this index has an entry, which is not rejected.
+  -- The certificate has an entry for value `number`, and the entry is not rejected.
   abbrev pub IsGood : ℕ → Tree → Type 0
   IsGood number tree = (reason : List ℕ) → IsUncertified ShownBy a number tree reason → ⊥
 
-  -- All values, beginning with this index, have such entries.
+  -- The certificate has an entry for each of the values, whose numbers begin at `number`, and no
+  -- entry is rejected.
   abbrev pub AreGood : ℕ → List Tree → Type 0
   AreGood number [] = Unit {0}
   AreGood number (tree ∷ trees) = IsGood number tree × AreGood (suc number) trees
 
-  -- One more value with this index follows.
+  -- The bytes begin with a value, whose number is `number` and whose entry is not rejected.
   pub record ComesGood (number : ℕ) (bytes : List ℕ) : Type 0 where
     pub tree : Tree
     pub more : List ℕ
     pub encoded : EncodeAll a.limit bytes (tree ∷ []) more
     pub good : IsGood number tree
 
-  -- The values so far are all of them, or one more follows.
+  -- The values `others`, which are encoded so far, are all values, or one more value follows.
   prefix :
       (bytes : List ℕ) → AreBytes bytes → (k n : ℕ) (trees others : List Tree) (rest : List ℕ)
       → n ≡ k + length others → EncodeAll a.limit bytes trees []
@@ -90,7 +91,7 @@ module _ {T S : Type 0} (ShownBy : T → S → Tree → Shown → Type 0) (a : V
       (are_bytes : AreBytes bytes) (trees : List Tree) (encoded : EncodeAll a.limit bytes trees [])
       (good : AreGood 0 trees) (many : length trees ≡ length a.sections) (all : Replies)
       (s : OutputsAll (verifying language Reads ShownBy) a (whole bytes) all) where
-    -- There is output for each of the values, and none after them.
+    -- Each value has an output, and the reply at the end of the input has no output.
     abbrev pub AreTaken : Type 0
     AreTaken = AreOutput ShownBy a 0 trees all.output × (all.last ≡ outputs nothing_output)
 

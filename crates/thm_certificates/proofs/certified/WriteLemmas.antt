@@ -1,5 +1,5 @@
--- A call of `check --cert` that reached the end of the input: FILE and TYPE were read, the whole
--- input is values, and the entry of each was written.
+-- If a call of `check --cert` reached the end of the input, then FILE and TYPE were read, and the
+-- whole input is values. The entry of each value was written.
 use Rattle.std.proofs.Common.{◌≡◌, ℕ, suc, Bool, true, List, [], ◌∷◌, ◌++◌, length, Option, Some, Result, Ok, Err, inl, inr, refl, sym, ap, ◌∙◌, subst}
 use Rattle.std.specs.Prelude.{◌&&◌, if◌then◌else◌}
 use Rattle.marshal_spec.specs.format.Stream.{EncodeAll, End, clean, refused, cut, IsTail}
@@ -28,7 +28,7 @@ use Rattle.thm_certificates.proofs.certified.StatedLemmas.{AreSections}
 
 -- ---- output for values
 
--- Each entry is of a value that has the type.
+-- True if each entry states that its value has the type.
 abbrev pub all_yes : List Section → Bool
 all_yes [] = true
 all_yes (section ∷ more) = is_yes section && all_yes more
@@ -36,7 +36,8 @@ all_yes (section ∷ more) = is_yes section && all_yes more
 abbrev pub status_by : Bool → Status
 status_by ok = if ok then statuses.AllOk else statuses.No
 
--- The output is the entries, and reports whether all values have the type.
+-- The outputs are the entries of the values, numbered from `k`. The outputs are without errors if
+-- and only if each entry states that its value has the type.
 pub record OutputsThem (t : TypeOver) (k : ℕ) (trees : List Tree) (output : List Output) : Type 0 where
   pub sections : List Section
   pub are : AreSections t trees sections
@@ -60,16 +61,16 @@ outputs_them a k (tree ∷ trees) (s ∷ output) ((section, is, same), h) =
 
 -- ---- the call
 
--- The work at a type.
+-- The work of `check --cert` at the type `t`.
 abbrev pub work_at : TypeOver → Asked → Certification TypeOver
 work_at t asked = record { type = t; limit = asked.limit }
 
--- The arguments ask for one certificate.
+-- If one option contains two requests for a certificate, then the requests are equal.
 asked_once : (asked : Option Asked) (one other : Asked) → asked ≡ Some one → asked ≡ Some other
     → one ≡ other
 asked_once asked one other h k = let both : Some one ≡ Some other = sym h ∙ k in cc both
 
--- No such status is that of an end of input.
+-- A status that marks the end of an input is `AllOk` or `No`.
 no_end : (status : Status) → IsEnd status → (status ≡ statuses.AllOk → ⊥)
     → (status ≡ statuses.No → ⊥) → ⊥
 no_end status (inl e) not_ok not_no = not_ok e
@@ -78,8 +79,7 @@ no_end status (inr e) not_ok not_no = not_no e
 module _ (arguments : List (List ℕ)) (asked : Asked) (request : Request) (asks : Asks arguments request)
     (is_asked : certified_by request ≡ Some asked) (given : Given) (all : Replies)
     (end : IsEnd (ending_of all).status) where
-  -- The contents of FILE, and TYPE, are read as the type. The whole input is values, and their
-  -- entries are written.
+  -- FILE and TYPE were read, the whole input is values, and the entries of the values are written.
   pub record AreWritten : Type 0 where
     pub t : TypeOver
     pub contents : List ℕ
@@ -95,7 +95,8 @@ module _ (arguments : List (List ℕ)) (asked : Asked) (request : Request) (asks
     pub out : (ending_of all).out ≡ texts_from 0 sections
     pub status : (ending_of all).status ≡ status_by (all_yes sections)
 
-  -- The last reply has no such exit reason.
+  -- If the status of an exit reason is neither `AllOk` nor `No`, then the last reply does not have
+  -- the exit reason.
   not_last : (exit : Exit) → (status_of exit ≡ statuses.AllOk → ⊥)
       → (status_of exit ≡ statuses.No → ⊥) → all.last ≡ exits exit → ⊥
   not_last exit not_ok not_no is =
@@ -170,7 +171,7 @@ module _ (arguments : List (List ℕ)) (asked : Asked) (request : Request) (asks
   of_type t (Ok contents, read, (Ok decls, declared, written)) answers =
       of_answers t contents read decls declared written answers
 
-  -- The run does not end before the input.
+  -- The run does not end before the input is read.
   not_barred : (exit : Exit)
       → Bar declared_types declared_certificates request given.files (status_of exit)
       → all ≡ stopped exit → ⊥

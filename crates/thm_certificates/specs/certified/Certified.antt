@@ -1,5 +1,5 @@
--- The output of `check --cert` as the certificate of `verify`: for the same input, FILE and TYPE,
--- it is accepted, and the output is the lines of `check`.
+-- The output of `check --cert` is the certificate of `verify`. For the same input, FILE and TYPE,
+-- the certificate is accepted, and `verify` prints the lines of `check`.
 use Rattle.std.specs.Prelude.{ℕ, ◌≤◌, ◌≡◌, ◌≢◌, ◌⊎◌, Bool, List, [], Some, Ok}
 use Rattle.types_spec.specs.declared.types.decl.Decl.{Decl}
 use Rattle.marshal_spec.specs.format.Stream.{EncodeAll}
@@ -17,9 +17,9 @@ use Rattle.run_spec.specs.runs.Environment.{IsHonest}
 use Rattle.run_types.specs.Language.{TypeOver, ReadsDeclarations, ReadsType, declared_types}
 use Rattle.cmd_certify.specs.spec.Certification.{Asked, certified_by}
 
--- The arguments ask to certify the values of the input at FILE and TYPE, from the first byte on and
--- each under the limit. The call reached the end of the input. Its input, the contents of FILE and
--- its output are known.
+-- The arguments ask to certify the values of the input at FILE and TYPE, from the first byte on.
+-- The call reached the end of the input. The input, the contents of FILE and the output of the call
+-- are known.
 pub record Certifies (arguments : List (List ℕ)) (call : Call)
     (asked : Asked) (contents input certificate : List ℕ) : Type 0 where
   pub request : Request
@@ -33,9 +33,9 @@ pub record Certifies (arguments : List (List ℕ)) (call : Call)
   pub input_is : call.input.before.bytes ≡ Some input
   pub writes : HasWritten call certificate
 
--- The arguments ask to verify a certificate of the values of this input at the same FILE and TYPE.
--- The limit is at least as high. FILE has the same contents, and CERT has the output of the first
--- call. No I/O call failed, nothing is too long, and memory did not run out.
+-- The arguments ask to verify a certificate of the values of this input at the FILE and TYPE of
+-- `asked`. The limit is at least the limit of `asked`. FILE has the given contents, and CERT has
+-- the contents `certificate`. No I/O call failed, nothing is too long, and memory did not run out.
 pub record Verifies (arguments : List (List ℕ)) (call : Call) (asked : Asked)
     (contents input certificate : List ℕ) : Type 0 where
   pub name : List ℕ
@@ -49,7 +49,8 @@ pub record Verifies (arguments : List (List ℕ)) (call : Call) (asked : Asked)
   pub honest : IsHonest call input files
   pub suffices : call.status ≢ Memory
 
--- The contents of FILE, and TYPE, are read as this type, for some way of reporting positions.
+-- The contents of FILE are declarations, and TYPE denotes the type `t` over the declarations, for
+-- some setting for positions.
 pub record AreReadAs (contents type : List ℕ) (t : TypeOver) : Type 0 where
   pub lines : Bool
   pub decls : List Decl
@@ -57,7 +58,8 @@ pub record AreReadAs (contents type : List ℕ) (t : TypeOver) : Type 0 where
   pub written : ReadsType decls (asked_type type lines) (Ok t)
 
 -- The input is consecutive values, each under the limit. The later call wrote the line of `check`
--- for each, in this order, and ended with the status of the first call.
+-- for each value, in the order of the values. The status of the later call is that of the first
+-- call.
 pub record ConfirmsAll (asked : Asked) (contents input : List ℕ) (call later : Call)
     : Type 0 where
   pub type : TypeOver
@@ -70,8 +72,8 @@ pub record ConfirmsAll (asked : Asked) (contents input : List ℕ) (call later :
   pub err : Writes later.err []
   pub status : later.status ≡ call.status
 
--- If the first of two calls certifies values, and the second verifies its output, then the
--- certificate is accepted.
+-- Suppose the first call certifies values, and the second call verifies the output of the first
+-- call. Then the certificate is accepted, and the lines of `check` are written.
 abbrev pub VerifiesWhatWasWritten : List (List ℕ) → Call → List (List ℕ) → Call → Type 0
 VerifiesWhatWasWritten arguments call later_arguments later =
     (asked : Asked) (contents input certificate : List ℕ)
@@ -79,8 +81,8 @@ VerifiesWhatWasWritten arguments call later_arguments later =
     → Verifies later_arguments later asked contents input certificate
     → ConfirmsAll asked contents input call later
 
--- The law holds for any two calls that satisfy the specifications of commands that certify and of
--- commands that verify.
+-- `VerifiesWhatWasWritten` holds for each two calls of which the first satisfies the specification
+-- `c` and the second satisfies the specification `d`.
 abbrev pub WrittenCertificatesAreAccepted : {A B : Type 0} → Commands A → Commands B → Type 0
 WrittenCertificatesAreAccepted c d =
     Follow c (λ arguments call. Follow d (VerifiesWhatWasWritten arguments call))

@@ -1,4 +1,4 @@
--- The certificate entry of a value, verified, gives the line that `check` prints for the value.
+-- Verifying the certificate entry of a value gives the line that `check` prints for the value.
 use Rattle.std.specs.Prelude.{ℕ, ◌≡◌, List}
 use Rattle.base_data.specs.declared.model.value.Val.{Val}
 use Rattle.base_data.specs.declared.model.value.Obj.{Obj}
@@ -10,14 +10,15 @@ use Rattle.cmd_verify.specs.spec.Verification.{Shown, shows}
 use Rattle.cmd_verify.specs.command.Shown.{IsShownAt}
 use Rattle.cmd_certify.specs.command.Certified.{IsSectionOf, is_yes}
 
--- The entry is not rejected, and gives a line of `check`.
+-- The entry is not rejected, and verifying the entry gives a line of `check`.
 pub record ShowsLine (t : TypeOver) (graph : List Obj) (v : Val) (section : Section)
     (shown : Shown) : Type 0 where
   pub line : List ℕ
   pub is : shown ≡ shows line (is_yes section)
   pub outputs : IsTypeLine the_verdict t graph v line (is_yes section)
 
--- The law holds for each entry that certifies a value, at a type that is read from some texts.
+-- Verifying an entry that certifies a value gives the line of `check`, at each type that some texts
+-- denote.
 abbrev pub CertifiedAreShown : Type 0
 CertifiedAreShown =
     (t : TypeOver) → IsGiven declared_types t

@@ -1,19 +1,15 @@
-//! The laws. Each function is a lemma function: it does nothing, and its contract is the law.
+//! The laws. A lemma function does nothing at run time: its contract is a law.
 
-ghost use Rattle.std.specs.Prelude.{List};
-ghost use Rattle.types_spec.specs.declared.types.decl.Decl.{Decl};
-ghost use Rattle.text_path.specs.declared.edits.ScriptLine.{ScriptLine};
-ghost use Rattle.run_types.specs.Language.{TypeOver, declared_types};
 ghost use Rattle.cmd_verify.specs.command.Reading.{on_certificates};
-ghost use Rattle.cmd_certify.specs.command.Certified.{declared_certificates, on_certified};
+ghost use Rattle.cmd_certify.specs.command.Certified.{on_certified};
 ghost use Rattle.thm_certificates.specs.certified.Certified.{WrittenCertificatesAreAccepted};
 ghost use Rattle.thm_certificates.specs.certified.Shown.{CertifiedAreShown};
 
 use cert_format::written_sections_are_certificates;
 use cert_verify::agreement::laws::{tables_verify_agree, types_are_one_list};
 use cert_verify::certificate::{answers_are_one, reached_pairs_are_accepted};
-use cmd_certify::command::laws::declared_certificates_are_one;
-use cmd_certify::spec::laws::{Certifies, certifying_keeps_run_spec};
+use cmd_certify::command::laws::{DeclaredCertificates, declared_certificates_are_one};
+use cmd_certify::spec::laws::certifying_keeps_run_spec;
 use cmd_verify::command::laws::{DeclaredSections, declared_sections_are_read_once};
 use cmd_verify::spec::laws::verifying_is_lawful;
 use run_types::laws::declared_types_are_lawful;
@@ -21,22 +17,8 @@ use types_theory::equality::table::tables_have_the_faults;
 use types_theory::table::tables_decide;
 use types_wellformed::declarations::known::{files_are_well_formed, types_are_sound};
 
-/// The certificate entries of values at declared types.
-pub struct WrittenSections;
-
-impl Certifies for WrittenSections {
-    ghost declarations = { List Decl };
-
-    ghost types = { TypeOver };
-
-    ghost lines = { ScriptLine };
-
-    ghost language = { declared_types };
-
-    ghost SectionOf = { declared_certificates };
-}
-
-/// The certificate entry of a value, verified, gives the line that `check` prints for the value.
+/// If an entry certifies a value, then verifying the entry gives the line that `check` prints for
+/// the value.
 pub fn certified_sections_are_shown()
     ensures { CertifiedAreShown }
 {
@@ -49,8 +31,8 @@ pub fn certified_sections_are_shown()
     tables_decide();
 }
 
-/// The output of `check --cert` is accepted by `verify` for the same input, FILE and TYPE. The
-/// output of `verify` is the lines of `check`, and its status is that of the first call.
+/// For the same input, FILE and TYPE, `verify` accepts the output of `check --cert`. `verify`
+/// prints the lines of `check`, and ends with the status of `check --cert`.
 pub fn written_certificates_are_accepted()
     ensures { WrittenCertificatesAreAccepted on_certified on_certificates }
 {
@@ -60,7 +42,7 @@ pub fn written_certificates_are_accepted()
     written_sections_are_certificates();
     declared_types_are_lawful();
     declared_certificates_are_one();
-    certifying_keeps_run_spec::<WrittenSections>();
+    certifying_keeps_run_spec::<DeclaredCertificates>();
     declared_sections_are_read_once();
     verifying_is_lawful::<DeclaredSections>();
     certified_sections_are_shown();

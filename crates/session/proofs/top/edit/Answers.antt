@@ -23,4 +23,4 @@ returns-in-Err g c = λ arguments asks.
     (change (g.O.Opener.state c.args.files.now) (g.O.Opener.state c.find_type.new.files))
     found.0 found.1 c.in-Err.exit found.2
     (g.S.Source.state c.args.input.now) (g.K.Sink.state c.args.out.now)
-    (change (g.E.Sink.state c.args.err.now) (g.E.Sink.state c.report.new.err)) c.report.result c.report.ensures
+    (change (g.E.Sink.state c.args.err.now) (g.E.Sink.state c.report_exit.new.err)) c.report_exit.result c.report_exit.ensures

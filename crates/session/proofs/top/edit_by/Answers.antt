@@ -7,7 +7,8 @@ use Rattle.run_types.specs.Types.{GivesScript}
 use Rattle.session.proofs.AccountLemmas.{given_in_time, script_account}
 use Rattle.session.proofs.top.edit_by.Goals as goal
 
--- The same, with the requested options.
+-- If the options of a script equal the requested options, then the result is the result with the
+-- requested options.
 asked_so : (name : List ℕ) (found : Found) (result : Result Script Exit) (l lines d decimal : Bool) → l ≡ lines → d ≡ decimal → GivesScript l d name found result → GivesScript lines decimal name found result
 asked_so name found result l lines d decimal same_lines same_decimal gives =
     subst (λ (b : Bool). GivesScript lines b name found result) same_decimal (subst (λ (b : Bool). GivesScript b d name found result) same_lines gives)
@@ -35,4 +36,4 @@ returns-in-Err g c = λ arguments before asks.
     script_account arguments c.args.requested c.args.script.now c.args.compat c.args.reading before (g.O.Opener.state c.args.files.now) (g.O.Opener.state c.find_script.new.files) asks
     found.0 found.1 c.in-Err.exit gives
     (g.S.Source.state c.args.input.now) (g.K.Sink.state c.args.out.now)
-    (change (g.E.Sink.state c.args.err.now) (g.E.Sink.state c.report.new.err)) c.report.result c.report.ensures
+    (change (g.E.Sink.state c.args.err.now) (g.E.Sink.state c.report_exit.new.err)) c.report_exit.result c.report_exit.ensures

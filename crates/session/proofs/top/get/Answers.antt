@@ -24,4 +24,4 @@ returns-in-Err g c = λ arguments asks.
     path_account arguments c.args.file.now c.args.type_text.now c.args.path_text.now c.args.style c.args.lines c.args.reading asks c.in-Err.fault
     (subst (λ text. UnlessMemory (λ f. IsAnswer text (Err f)) c.in-Err.fault) c.as_bytes.ensures.value c.in-Err.ensures.fault) c.path_exit.result c.path_exit.ensures
     (g.S.Source.state c.args.input.now) (g.K.Sink.state c.args.out.now) (g.O.Opener.state c.args.files.now)
-    (change (g.E.Sink.state c.args.err.now) (g.E.Sink.state c.report.new.err)) c.report.result c.report.ensures
+    (change (g.E.Sink.state c.args.err.now) (g.E.Sink.state c.report_exit.new.err)) c.report_exit.result c.report_exit.ensures

@@ -10,7 +10,7 @@ none_of : (left : List Token) → length left ≡ 0 → left ≡ []
 none_of [] e = refl
 none_of (t ∷ left) e = absurd (omega arith)
 
--- No token is left.
+-- At the end of the loop no token is left.
 whole : (c : In_default) → After c.args.tokens.items [] c.next.values.items c.next.objects.items
 whole c =
     let empty : length c.next.tokens.items ≡ 0 = search rules in

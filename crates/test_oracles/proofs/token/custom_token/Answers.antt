@@ -10,7 +10,7 @@ use Rattle.base_data.proofs.model.Numbers.{are_bytes}
 use Rattle.marshal_spec.proofs.format.ContentLemmas.{data_at, native_at, fits_four}
 use Rattle.test_oracles.proofs.token.custom_token.Goals as goal
 
--- The custom type that an identifier names.
+-- Two equal identifiers name one custom type.
 named : {first three : List ℕ} {found kind : Option CustomKind} → first ≡ three → found ≡ custom_of first → found ≡ kind → kind ≡ custom_of three
 named e f g = sym g ∙ (f ∙ ap custom_of e)
 

@@ -34,7 +34,7 @@ returns-in-Some c =
     token_decided c.args.limit c.args.bytes.now c.first-header.result.now c.next.tokens.items c.next.rest.now c.next.invariant c.in-Some.decided
     (subst (λ x. IsDecided (refusal_at x) c.next.rest.now c.in-Some.decided) at decided)
 
--- The next token is not refused and is complete.
+-- The next token is not refused.
 none_of : (c : After-deref-in-next) → token_refusal c.first-header.result.now c.next.tokens.items c.next.rest.now ≡ None
 none_of c =
     let at : context_of c.in_ok-c.c ≡ context c.first-header.result.now c.next.tokens.items = search rules in
@@ -47,7 +47,7 @@ length_of c = c.raw_length-len.ensures.bytes
 whole_of : (c : After-deref-in-next) → raw_length c.next.rest.now ≤ length c.next.rest.now
 whole_of c = let len = length_of c in omega arith
 
--- The tokens with the next one, and the bytes after it.
+-- The tokens with the next token are the tokens after the call of `push`.
 tokens_of : (c : After-deref-in-next) → with_next c.next.tokens.items c.next.rest.now ≡ c.push.new.tokens.items
 tokens_of c =
     let e : c.push.new.tokens.items ≡ c.next.tokens.items ++ take c.raw_length-len.result c.next.rest.now ∷ [] = search rules in
@@ -67,7 +67,7 @@ is_open-requires c =
     let short : length c.args.bytes.now < 2 ^ 64 = search rules in
     omega arith
 
--- The value after the last token.
+-- If no value is pending after the next token, then the tokens are those of a value.
 value_of : (c : After-deref-in-next) → (IsOpen c.push.new.tokens.items → ⊥)
     → BeginsValue c.args.limit c.args.bytes.now (length c.args.bytes.now - length c.skip-rest-in-next.result.now) c.push.new.tokens.items
 value_of c closed =

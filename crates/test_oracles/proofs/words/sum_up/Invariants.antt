@@ -3,7 +3,7 @@ use Rattle.std.specs.Prelude.{sum_by}
 use Rattle.marshal_spec.specs.format.Words.{words32, words64, fields, of_object}
 use Rattle.test_oracles.proofs.words.sum_up.Given as goal
 
--- The sums so far, and their bounds.
+-- The sums over the tokens before the current token, and the bounds of these sums.
 abbrev pub invariant-loop-token : goal.invariant-loop-token
 invariant-loop-token l =
     (l.objects ≡ sum_by (of_object (λ _. 1)) (take l.token-index l.tokens)) × (l.objects ≤ l.token-index * 2 ^ 65)

@@ -2,6 +2,6 @@ use Rattle.types_table.specs.type_table.Made.{table_of}
 use Rattle.check_stream.specs.chunks.StreamCheck.{IsStreamCheck}
 use Rattle.test_units.proofs.values.passes.inspected_after_mismatches.Given as goal
 
--- The next value is checked from its first byte on.
+-- The streaming check reads the next value from its first byte on.
 abbrev pub invariant-mismatches : goal.invariant-mismatches
 invariant-mismatches l = IsStreamCheck (table_of l.table) 1000 l.stream_check
