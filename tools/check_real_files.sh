@@ -1,13 +1,16 @@
 #!/bin/sh
-# Checks files that OCaml itself wrote with omarshal, at the type files of examples/: each compiled interface of the
-# standard library and of the compiler, each .cmo, .cma, .cmx, .cmxa and .cmt there, and a map, a set, a hash table and a
-# queue; where Coq's standard library is installed (libcoq-stdlib), four segments of each .vo: summary, library, universes
-# and opaques. Each value is found in its file by `scan`, has its type and comes back byte for byte from `edit` with an
-# empty script; where its type has no `_`, also from `build` of the output of `show`. With a byte of it damaged it is
-# refused, or does not have the type, or is another value of it, and omarshal ends with 0, 1 or 4 all the same. The
-# argument is the program; with none it is the one that `./omarshal --prove` built. Where KEEP is set, it names a folder in which
-# each value is kept, and the table values.tsv with a line for each: its file, its type file and its type
+# Checks files that OCaml itself wrote with omarshal, at the type files of examples/ for the version of the OCaml on PATH: each
+# compiled interface of the standard library and of the compiler, each .cmo, .cma, .cmx, .cmxa and .cmt there, and a map, a
+# set, a hash table and a queue; where Coq's standard library is installed (libcoq-stdlib), the segments summary, library,
+# universes and opaques of each .vo. Each value is found in its file by `scan`, has its type and comes back byte for byte
+# from `edit` with an empty script; where its type has no `_`, also from `build` of the output of `show`. With a byte of it
+# damaged it is refused, or does not have the type, or is another value of it, and omarshal ends with 0, 1 or 4 all the same.
+# The argument is the program; with none it is the one that `./omarshal --prove` built. Where KEEP is set, it names a folder
+# in which each value is kept, and the table values.tsv with a line for each: its file, its type file and its type
 # (tools/check_certificates.py).
+#
+# OCaml 5 compresses some values of .cmi and .cmt files, and sets bits 8 and 9 of header words. plain_values.c makes the values
+# plain before they are checked, and clears the bits before a value is compared with what omarshal writes.
 set -eu
 export LC_ALL=C
 for needed in ocaml ocamlc; do
@@ -16,12 +19,14 @@ for needed in ocaml ocamlc; do
         exit 0
     fi
 done
-case $(ocamlc -version) in
-    4.13.*) ;;
-    *) echo "skipped: OCaml is $(ocamlc -version), and the type files are those of 4.13"; exit 0 ;;
-esac
 here=$(cd "$(dirname "$0")" && pwd)
-examples=$here/../examples
+containers=$here/../examples/containers.ml
+case $(ocamlc -version) in
+    4.13.*) examples=$here/../examples coq=81601 ;;
+    5.3.*) examples=$here/../examples/5.3 coq=82000 ;;
+    5.4.*) examples=$here/../examples/5.4 coq=90299 ;;
+    *) echo "skipped: OCaml is $(ocamlc -version), and the type files are those of 4.13, 5.3 and 5.4"; exit 0 ;;
+esac
 program=${1:-$here/../crates/omarshal/out/omarshal}
 if [ ! -x "$program" ]; then
     echo "there is no program $program: ./omarshal --prove builds it"
@@ -37,6 +42,20 @@ if [ -n "${KEEP:-}" ]; then
     mkdir -p "$KEEP"
     : > "$KEEP/values.tsv"
 fi
+
+# plain FILE: the file with plain values in place of compressed ones. as_written FILE: the value as omarshal writes it.
+plain() { cat "$1"; }
+as_written() { cat "$1"; }
+case $(ocamlc -version) in
+    5.*)
+        if ! cc -O1 -o "$work/plain_values" "$here/plain_values.c" -lzstd 2> "$work/err"; then
+            echo "skipped: files of OCaml 5, as plain_values.c is not built without cc and libzstd"
+            exit 0
+        fi
+        plain() { "$work/plain_values" < "$1"; }
+        as_written() { "$work/plain_values" clear < "$1"; }
+        ;;
+esac
 
 # Twelve bytes of magic come before the first value of a .cmi, .cmx or .cmxa, and 16 bytes of a checksum after that of a
 # .cmx; a .cmo or .cma has its value at the offset that the four bytes after the magic give.
@@ -108,8 +127,9 @@ hidden() {
         cp "$work/one" "$KEEP/$kept.bin"
         printf '%s\t%s\t%s\n' "$kept.bin" "$(realpath "$examples/$2")" "$3" >> "$KEEP/values.tsv"
     fi
+    as_written "$work/one" > "$work/wanted"
     if ! "$program" edit "$examples/$2" "$3" /dev/null < "$work/one" > "$work/written" 2> "$work/err" ||
-        ! cmp -s "$work/one" "$work/written"; then
+        ! cmp -s "$work/wanted" "$work/written"; then
         echo "FAILED: edit of $1 at $3 with an empty script: $(cat "$work/err")"
         failures=$((failures + 1))
     fi
@@ -127,11 +147,18 @@ value() {
     fi
 }
 
+# From 5.0 on two types have a part of type `_`: the kind of a method in a .cmi, and the literal of a relocation in a .cmo or
+# .cma.
+case $(ocamlc -version) in
+    4.*) methods=value literals=value ;;
+    *) methods=hidden literals=hidden ;;
+esac
 for file in "$library"/*.cmi "$library"/compiler-libs/*.cmi; do
     [ -f "$file" ] || continue
-    offsets "$file"
-    after_magic "$file" > "$work/values"
-    value "$file" cmi.types 'string * types_signature' 1
+    plain "$file" > "$work/file"
+    offsets "$work/file"
+    after_magic "$work/file" > "$work/values"
+    $methods "$file" cmi.types 'string * types_signature' 1
     value "$file" cmi.types misc_crcs 2
     value "$file" cmi.types 'cmi_format_pers_flags list' 3
 done
@@ -139,13 +166,13 @@ for file in "$library"/*.cmo "$library"/compiler-libs/*.cmo; do
     [ -f "$file" ] || continue
     offsets "$file"
     descriptor "$file" > "$work/values"
-    value "$file" cmo.types cmo_format_compilation_unit 1
+    $literals "$file" cmo.types cmo_format_compilation_unit 1
 done
 for file in "$library"/*.cma "$library"/compiler-libs/*.cma; do
     [ -f "$file" ] || continue
     offsets "$file"
     descriptor "$file" > "$work/values"
-    value "$file" cmo.types cmo_format_library 1
+    $literals "$file" cmo.types cmo_format_library 1
 done
 for file in "$library"/*.cmx "$library"/compiler-libs/*.cmx; do
     [ -f "$file" ] || continue
@@ -163,17 +190,20 @@ done
 # A .cmt of a module without an .mli has the three values of its interface first, after the magic of these.
 for file in "$library"/*.cmt "$library"/compiler-libs/*.cmt; do
     [ -f "$file" ] || continue
-    offsets "$file"
-    after_magic "$file" > "$work/values"
-    if [ "$(head -c 12 "$file")" = Caml1999I030 ]; then
-        for _ in 1 2 3; do
-            tail -c "+$(($(length_of "$work/values") + 1))" "$work/values" > "$work/cut"
+    plain "$file" > "$work/file"
+    offsets "$work/file"
+    after_magic "$work/file" > "$work/values"
+    case $(head -c 9 "$file") in
+        Caml1999I)
+            for _ in 1 2 3; do
+                tail -c "+$(($(length_of "$work/values") + 1))" "$work/values" > "$work/cut"
+                mv "$work/cut" "$work/values"
+            done
+            tail -c +13 "$work/values" > "$work/cut"
             mv "$work/cut" "$work/values"
-        done
-        tail -c +13 "$work/values" > "$work/cut"
-        mv "$work/cut" "$work/values"
-    fi
-    hidden "$file" cmt.types cmt_format_cmt_infos 1
+            ;;
+    esac
+    hidden "$file" cmt.types "'none cmt_format_cmt_infos" 1
 done
 
 # A .vo has the offset of its table after the magic and the version, in 8 bytes. The table is a number of segments in 4
@@ -201,19 +231,19 @@ segment() {
 find "$library/coq" -name '*.vo' 2> "$work/err" | sort > "$work/vo"
 [ -s "$work/vo" ] || echo "skipped: .vo files, as there is no libcoq-stdlib"
 while IFS= read -r file; do
-    if [ "$(vo_version "$file")" -ne 81601 ]; then
-        echo "skipped: .vo files, as they are not those of Coq 8.16.1"
+    if [ "$(vo_version "$file")" -ne "$coq" ]; then
+        echo "skipped: .vo files, as they are of version $(vo_version "$file"), not $coq"
         break
     fi
     offsets "$file"
     segments "$file" > "$work/table"
     segment value "$file" summary library_seg_sum
     segment hidden "$file" library library_seg_lib
-    segment value "$file" universes 'library_seg_univ option'
+    ! grep -q '^universes ' "$work/table" || segment value "$file" universes 'library_seg_univ option'
     segment value "$file" opaques library_seg_proofs
 done < "$work/vo"
 
-ocaml "$examples/containers.ml" "$work"
+ocaml "$containers" "$work"
 cp "$work/map.bin" "$work/values" && offsets "$work/map.bin" && value 'a map' map.types 'int map_make_string_t' 1
 cp "$work/set.bin" "$work/values" && offsets "$work/set.bin" && value 'a set' set.types set_make_string_t 1
 cp "$work/hashtbl.bin" "$work/values" && offsets "$work/hashtbl.bin" && value 'a hash table' hashtbl.types '(string, int) hashtbl_t' 1
@@ -227,7 +257,7 @@ grep -q '^no ' "$work/lines" || { echo "FAILED: a map is taken for a set"; failu
 # The first value of an interface with one byte changed, each byte in turn. In the header's 20 bytes it is refused, and
 # in the code of the root it is refused or `no`. A later byte may be one of a name or a number, which is another value of
 # the type: of these many are still refused or `no`, and the run ends in order.
-after_magic "$library/stdlib__Unit.cmi" > "$work/whole"
+plain "$library/stdlib__Unit.cmi" | tail -c +13 > "$work/whole"
 length=$(length_of "$work/whole")
 nth 1 "$work/whole" > "$work/first"
 offset=0

@@ -20,8 +20,8 @@ if [ ! -f "$library/stdlib__Map.cmt" ]; then
     exit 0
 fi
 case $(ocamlc -version) in
-    4.13.*) ;;
-    *) echo "skipped: OCaml is $(ocamlc -version), not 4.13"; exit 0 ;;
+    4.13.* | 5.3.* | 5.4.*) ;;
+    *) echo "skipped: OCaml is $(ocamlc -version), not 4.13, 5.3 or 5.4"; exit 0 ;;
 esac
 here=$(cd "$(dirname "$0")" && pwd)
 program=${1:-$here/../crates/omarshal/out/omarshal}

@@ -6,7 +6,7 @@
 #   bin/omarshal          the launcher, which runs the program and answers --help and --version
 #   libexec/omarshal/     the program, as `omarshal` if it is proved and as `omarshal-unproved` otherwise; the help texts
 #   share/                the manual page, completions for bash and zsh, and the documents
-#   bin/types_of_cmi      only with OCaml 4.13 and its library compiler-libs
+#   bin/types_of_cmi      only with OCaml 4.13 to 5.4 and its library compiler-libs
 #
 # PROGRAM is by default the proved program if it is built and current. Otherwise it is the unproved program, which is built first
 # if needed. Any PROGRAM but the current proved program of this repository is installed as unproved. With OMARSHAL_PROVED=1 only a
@@ -43,7 +43,9 @@ copy 644 "$top/tools/completion/omarshal.bash" share/bash-completion/completions
 copy 644 "$top/tools/completion/_omarshal" share/zsh/site-functions/_omarshal
 for file in "$top/README.md" "$top/CHANGES.md"; do copy 644 "$file" "share/doc/omarshal/$(basename "$file")"; done
 for file in "$top/docs"/*.md; do copy 644 "$file" "share/doc/omarshal/docs/$(basename "$file")"; done
-for file in "$top/examples"/*.types "$top/examples/README.md"; do copy 644 "$file" "share/doc/omarshal/examples/$(basename "$file")"; done
+for file in "$top/examples"/*.types "$top/examples"/*/*.types "$top/examples/README.md"; do
+    copy 644 "$file" "share/doc/omarshal/examples/${file#"$top/examples/"}"
+done
 
 "$prefix/bin/omarshal" check /dev/null int </dev/null 2>/dev/null || { say "the installed program does not answer: $program"; exit 1; }
 
@@ -51,8 +53,8 @@ if [ -n "$left_out" ]; then
     :
 elif ! command -v ocamlopt >/dev/null; then
     left_out='there is no ocamlopt'
-elif [[ $(ocamlopt -version) != 4.13.* ]]; then
-    left_out="it needs OCaml 4.13, and this is OCaml $(ocamlopt -version)"
+elif [[ $(ocamlopt -version) != @(4.1[34]|5.[0-4]).* ]]; then
+    left_out="it needs OCaml 4.13 to 5.4, and this is OCaml $(ocamlopt -version)"
 elif [ ! -f "$(ocamlopt -where)/compiler-libs/ocamlcommon.cmxa" ]; then
     left_out='the library compiler-libs is missing'
 fi

@@ -20,10 +20,6 @@ if [ ! -f "$folder/compiler-libs/ocamlcommon.cma" ]; then
     echo "skipped: no compiler-libs"
     exit 0
 fi
-case $(ocamlc -version) in
-    4.13.*) ;;
-    *) echo "skipped: OCaml is $(ocamlc -version), not 4.13"; exit 0 ;;
-esac
 here=$(cd "$(dirname "$0")" && pwd)
 work=$(mktemp -d)
 trap 'rm -rf "$work"' EXIT

@@ -5,7 +5,7 @@
 #
 # PROGRAM is the program omarshal, by default the proved one if it is built and current, and otherwise the unproved one, which is
 # built first if needed. CONFORMANCE is the program of crates/test_conformance, found or built in the same way. The last line is
-# `N passed, N failed`: the sum of the same lines of all parts. What needs OCaml 4.13 is skipped where there is none, which a line
+# `N passed, N failed`: the sum of the same lines of all parts. What needs OCaml is skipped where there is none, which a line
 # says. The comparisons with OCaml (tools/check_*.sh) are not among these tests.
 set -u
 top=$(cd "$(dirname "$0")/.." && pwd) || exit 2

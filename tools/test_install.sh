@@ -24,7 +24,8 @@ documents_are_there() {
 
 "$here/install.sh" "$work/prefix" "$program" >"$work/files-installed" 2>"$work/errors" || { cat "$work/errors"; exit 1; }
 for file in bin/omarshal share/man/man1/omarshal.1 share/bash-completion/completions/omarshal share/zsh/site-functions/_omarshal \
-    libexec/omarshal/help/omarshal.txt libexec/omarshal/VERSION share/doc/omarshal/README.md share/doc/omarshal/docs/FORMAT.md; do
+    libexec/omarshal/help/omarshal.txt libexec/omarshal/VERSION share/doc/omarshal/README.md share/doc/omarshal/docs/FORMAT.md share/doc/omarshal/examples/cmi.types \
+    share/doc/omarshal/examples/5.4/cmi.types; do
     holds "$file is installed" test -f "$work/prefix/$file"
 done
 holds 'the documents that the manual page names are installed' documents_are_there
@@ -33,7 +34,7 @@ holds 'the program answers' test "$answer" = yes
 "$work/prefix/bin/omarshal" check /dev/null int <<<'no value' 2>/dev/null
 holds 'its status passes through the launcher' test $? -eq 4
 holds 'the launcher answers --help' test "$("$work/prefix/bin/omarshal" --help)" = "$(cat "$here/help/omarshal.txt")"
-if command -v ocamlopt >/dev/null && [[ $(ocamlopt -version) = 4.13.* ]] && [ -f "$(ocamlc -where)/compiler-libs/ocamlcommon.cmxa" ]; then
+if command -v ocamlopt >/dev/null && [[ $(ocamlopt -version) = @(4.1[34]|5.[0-4]).* ]] && [ -f "$(ocamlc -where)/compiler-libs/ocamlcommon.cmxa" ]; then
     holds 'types_of_cmi answers' test "$("$work/prefix/bin/types_of_cmi" 'int list' 2>&1 >/dev/null)" = 'int list'
 else
     holds 'install.sh says that types_of_cmi is left out, and why' grep -q '^install: bin/types_of_cmi is left out: .' "$work/errors"

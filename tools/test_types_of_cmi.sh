@@ -1,8 +1,31 @@
 #!/bin/sh
-# Tries types_of_cmi: what it prints on standard output and standard error, beside texts that were written by hand, and whether values that OCaml
-# writes have the types that it prints, by the judgement of value_has_type.py.
+# Tries types_of_cmi with the OCaml on PATH: what it prints on standard output and standard error, beside texts that were written by hand, and
+# whether values that OCaml writes have the types that it prints, by the judgement of value_has_type.py. Of the versions 4.13, 5.3 and 5.4, for
+# which examples/ has type files, the script names those that it did not try.
 set -eu
 export LC_ALL=C
+here=$(cd "$(dirname "$0")" && pwd)
+work=$(mktemp -d)
+trap 'rm -rf "$work"' EXIT
+
+# The build knows the versions that it names, and no other: a compiler that only says its version ends with 3 when it is to
+# compile.
+mkdir "$work/bin"
+for known in 4.13.1:3 4.14.2:3 5.0.0:3 5.1.1:3 5.2.1:3 5.3.0:3 5.4.1:3 5.4.0~rc1:3 4.12.1:2 5.5.0:2 5.40.0:2 6.4.0:2; do
+    printf '#!/bin/sh\n[ "$*" != -version ] || { echo %s; exit; }\nexit 3\n' "${known%:*}" > "$work/bin/ocamlopt"
+    chmod +x "$work/bin/ocamlopt"
+    status=0
+    PATH=$work/bin:$PATH sh "$here/build_types_of_cmi.sh" "$work/program" > "$work/out" 2>&1 || status=$?
+    : > "$work/wanted"
+    [ "$status" -ne 2 ] ||
+        echo "build_types_of_cmi: this is OCaml ${known%:*}; types_of_cmi knows 4.13, 4.14, 5.0, 5.1, 5.2, 5.3 and 5.4" > "$work/wanted"
+    if [ "$status" -ne "${known#*:}" ] || ! cmp -s "$work/wanted" "$work/out"; then
+        echo "FAILED: the build with OCaml ${known%:*}: status $status"
+        cat "$work/out"
+        exit 1
+    fi
+done
+
 for program in ocaml ocamlc python3; do
     if ! command -v "$program" > /dev/null 2>&1; then
         echo "skipped: no $program"
@@ -18,16 +41,15 @@ if [ ! -f "$library/stdlib__Map.cmt" ]; then
     echo "skipped: no .cmt files of the standard library"
     exit 0
 fi
-case $(ocamlc -version) in
-    4.13.*) ;;
-    *) echo "skipped: OCaml is $(ocamlc -version), not 4.13"; exit 0 ;;
-esac
+version=$(ocamlc -version)
 
-here=$(cd "$(dirname "$0")" && pwd)
 expected=$here/expected
 examples=$here/../examples
-work=$(mktemp -d)
-trap 'rm -rf "$work"' EXIT
+case $version in
+    4.13.*) typed=$examples ;;
+    4.14.* | 5.[0-4].*) typed=$examples/$(echo "$version" | cut -d . -f 1-2) ;;
+    *) echo "skipped: OCaml is $version, which types_of_cmi does not know"; exit 0 ;;
+esac
 cd "$work"
 failures=0
 
@@ -77,16 +99,23 @@ descriptor() {
     tail -c "+$((offset + 1))" "$1"
 }
 
+# The compiler of OCaml 5 may compress the first value of a .cmi. plain_values.c makes it plain.
+plain=cat
+case $version in
+    5.*)
+        plain=./plain_values
+        if ! cc -O1 -o plain_values "$here/plain_values.c" -lzstd 2> /dev/null; then
+            plain=
+            echo "skipped: values of .cmi files, as plain_values.c is not built without cc and libzstd"
+        fi
+        ;;
+esac
+
 cp "$expected"/*.ml "$expected"/*.mli .
 sh "$here/build_types_of_cmi.sh" types_of_cmi -w +a-4-40-41-42-44-45-70 -warn-error +a -strict-sequence
-{
-    printf 'type wide ='
-    for number in $(seq 245); do printf ' | C%d of int' "$number"; done
-    echo
-} >> refused.ml
 echo 'type t = int' > gone.ml
 ocamlc -w -a -bin-annot -c gone.ml kinds.ml refused.ml unasked.ml by_hand.ml hidden.mli hidden.ml uses_hidden.ml applied.ml indexed.ml \
-    shut__part.mli shut__part.ml shut_names.ml shut.mli shut.ml
+    shut__part.mli shut__part.ml shut_names.ml shut.mli shut.ml textbook.ml
 ocamlc -w -a -rectypes -c copied.ml
 head -c 60 kinds.cmi > broken.cmi
 
@@ -152,6 +181,27 @@ by_words applied --cmt Applied.all
 by_words copied Copied.all
 by_words indexed --cmt Indexed.all
 by_words shut --cmt Shut.Inner.file
+by_words textbook Textbook.all
+
+# Types of later versions. From 5.4 on Atomic.t is a record in its .cmt.
+case $version in
+    5.3.*) cp "$expected/later.types" later.wanted ;;
+    5.*) sed 's/as types_of_cmi knows it/from its .cmt/' "$expected/later.types" > later.wanted ;;
+esac
+case $version in
+    5.3.* | 5.4.*)
+        ocamlc -w -a -bin-annot -c later.ml
+        made later.types --cmt Later.counts
+        declarations later.types > found.types
+        same "declarations of later.ml" later.wanted found.types
+        ;;
+esac
+case $version in
+    5.4.*)
+        ocamlc -w -a -c labels.ml
+        by_words labels Labels.all
+        ;;
+esac
 
 # Parts that have no form, of which nothing is asked. The last line on standard error is the type.
 mv gone.cmi gone.saved
@@ -271,10 +321,6 @@ fails 1 --any Refused.loop << 'END'
 types_of_cmi: Refused.loop: _ for a type that is only another name of itself
 types_of_cmi: Refused.loop: nothing is asked of a value of this type
 END
-fails 1 --any 'string Refused.only_int' << 'END'
-types_of_cmi: Refused.only_int at string: _ for a variant without constructors
-types_of_cmi: string Refused.only_int: nothing is asked of a value of this type
-END
 fails 1 --declare 'Refused.job = _' Refused.job << 'END'
 types_of_cmi: Refused.job: _ by hand
 types_of_cmi: Refused.job: nothing is asked of a value of this type
@@ -286,6 +332,80 @@ END
 fails 1 --declare 'Refused.hidden = _' Refused.two << 'END'
 types_of_cmi: Refused.two -> field g: a function
 END
+
+# A record by hand, which OCaml lays out flat if the part of type `_` is a float
+fails 1 --declare 'Refused.job = { size : float; scale : _ }' Refused.queue << 'END'
+types_of_cmi: Refused.queue -> constructor Jobs -> field first -> Refused.job: a record of floats and _, which OCaml may lay out flat
+END
+fails 1 --any --declare 'Refused.hidden = _' --declare 'Refused.job = { size : float; scale : Refused.hidden }' Refused.job << 'END'
+types_of_cmi: Refused.job -> field scale -> Refused.hidden: _ by hand
+types_of_cmi: Refused.job: _ for a record of floats and _, which OCaml may lay out flat
+types_of_cmi: Refused.job: nothing is asked of a value of this type
+END
+
+# More constructors with arguments than a block has tags. From 5.0 on the compiler refuses the type.
+case $version in
+    4.*)
+        {
+            printf 'type t ='
+            for number in $(seq 245); do printf ' | C%d of int' "$number"; done
+            echo
+        } > wide.ml
+        ocamlc -c wide.ml
+        fails 1 Wide.t << 'END'
+types_of_cmi: Wide.t: a variant of more than 244 constructors with arguments
+END
+        ;;
+esac
+
+# Types of later versions without a form, by their names. A Dynarray.t has an object in it.
+case $version in
+    5.3.* | 5.4.*)
+        fails 1 --cmt Later.key << 'END'
+types_of_cmi: Later.key -> field key -> Domain.DLS.key: a key of domain-local storage (Domain.DLS)
+END
+        fails 1 --cmt 'int Later.row' << 'END'
+types_of_cmi: Later.row -> field cells -> Dynarray.t -> constructor Pack: an existential type
+types_of_cmi: Later.row -> field cells -> Dynarray.t -> constructor Pack -> Dynarray.t_ -> field dummy -> Dynarray.Dummy.dummy: an object
+END
+        made found.types --cmt --any 'int Later.row'
+        cat > wanted.types << 'END'
+(* Dynarray.Dummy.with_dummy, from its .cmt *)
+type ('a, 'b) dynarray_dummy_with_dummy = 'a
+
+(* Dynarray.Dummy.dummy, from its .cmt *)
+type 'a dynarray_dummy_dummy = _
+
+(* Dynarray.t_, from its .cmt *)
+type ('a, 'b) dynarray_t = {
+  mutable length : int;
+  mutable arr : ('a, 'b) dynarray_dummy_with_dummy array;
+  dummy : 'b dynarray_dummy_dummy;
+}
+
+(* Dynarray.t, from its .cmt *)
+type 'a dynarray_t_2 = ('a, _) dynarray_t
+
+(* Later.row *)
+type 'a later_row = {
+  cells : 'a dynarray_t_2;
+  label : string;
+}
+END
+        declarations found.types > cut.types
+        same "a Dynarray.t" wanted.types cut.types
+        ;;
+esac
+case $version in
+    5.4.*)
+        fails 1 --cmt 'int Labels.frozen' << 'END'
+types_of_cmi: Labels.frozen -> field frozen -> iarray: an immutable array (iarray)
+END
+        fails 1 --cmt 'int Atomic.Loc.t' << 'END'
+types_of_cmi: Atomic.Loc.t -> atomic_loc: an atomic location
+END
+        ;;
+esac
 
 # Types that stay abstract with --cmt; an index that may be another, or is none of the first constructors
 mkdir alone
@@ -304,9 +424,6 @@ END
 fails 1 'Hidden.meters Indexed.length' << 'END'
 types_of_cmi: Indexed.length at Hidden.meters -> constructor Meters: a generalized constructor (GADT) that may be of another index
 types_of_cmi: Indexed.length at Hidden.meters -> constructor Other: a generalized constructor (GADT) that may be of another index
-END
-fails 1 --cmt 'Hidden.t Indexed.measure' << 'END'
-types_of_cmi: Indexed.measure at Hidden.t -> constructor Sealed: a generalized constructor (GADT) of another index, before others
 END
 
 # All files that are not there and may help are named at once: also of a module by another name, of an argument of a
@@ -417,19 +534,61 @@ ocamlc -w -a hidden.ml uses_hidden.ml uses_hidden_values.ml -o uses_hidden_value
 ./uses_hidden_values values.bin > wanted.tsv
 judged uses_hidden.types values.bin wanted.tsv
 
-ocamlc -w -a -rectypes hidden.ml applied.ml copied.ml indexed.ml shut__part.ml shut.ml more_values.ml -o more_values
-for module in applied copied indexed shut; do
+ocamlc -w -a -rectypes hidden.ml applied.ml copied.ml indexed.ml shut__part.ml shut.ml textbook.ml more_values.ml -o more_values
+for module in applied copied indexed shut textbook; do
     ./more_values $module values.bin > wanted.tsv
     judged $module.types values.bin wanted.tsv
 done
 
+case $version in
+    5.3.* | 5.4.*)
+        ocamlc -w -a later.ml later_values.ml -o later_values
+        ./later_values values.bin > wanted.tsv
+        judged later.types values.bin wanted.tsv
+        ;;
+esac
+case $version in
+    5.4.*)
+        ocamlc -w -a labels.ml labels_values.ml -o labels_values
+        ./labels_values values.bin > wanted.tsv
+        judged labels.types values.bin wanted.tsv
+        ;;
+esac
+
+# Types that no file of OCaml shows
+unix=$(dirname "$(find "$library" -name unix.cma | head -n 1)")
+str=$(dirname "$(find "$library" -name str.cma | head -n 1)")
+made known.types --cmt -I "$unix" -I "$str" 'Unix.inet_addr * Unix.file_descr * Str.regexp'
+cat > known.ml << 'END'
+let () =
+  let file = open_out_bin "values.bin" in
+  let write value = Marshal.to_channel file value [] in
+  write (Unix.inet_addr_of_string "127.0.0.1");
+  write (Unix.inet_addr_of_string "::1");
+  write (Str.regexp_case_fold "a\\(b*\\)[^c-d]?\\1");
+  write Unix.stdout;
+  write (Unix.gettimeofday ());
+  write (Unix.gettimeofday ());
+  write (Unix.inet_addr_of_string "127.0.0.1");
+  close_out file
+END
+ocamlc -w -a -I "$unix" -I "$str" unix.cma str.cma known.ml -o known
+./known
+printf '%s\n' 'yes	unix_inet_addr' 'yes	unix_inet_addr' 'yes	str_regexp' 'yes	unix_file_descr' 'no	unix_inet_addr' \
+    'no	unix_file_descr' 'no	str_regexp' > wanted.tsv
+judged known.types values.bin wanted.tsv
+
 # The examples are what make.sh makes, and what OCaml writes has their types.
 mkdir made
 sh "$examples/make.sh" made 2> err.txt || cat err.txt
-if grep '^skipped: ' err.txt; then cp "$examples/vo.types" made; fi
-for file in "$examples"/*.types; do
-    same "$file" "$file" "made/$(basename "$file")"
-done
+if [ -d "$typed" ]; then
+    if grep '^skipped: ' err.txt; then cp "$typed/vo.types" made; fi
+    for file in "$typed"/*.types; do
+        same "$file" "$file" "made/$(basename "$file")"
+    done
+else
+    echo "skipped: the files of examples/, as none are for OCaml $version"
+fi
 
 ocaml "$examples/containers.ml" .
 cat map.bin map.bin > values.bin
@@ -449,16 +608,18 @@ judged made/queue.types values.bin wanted.tsv
 begin() { : > values.bin; : > wanted.tsv; }
 wanted() { printf '%s\t%s\n' "$1" "$2" >> wanted.tsv; }
 
-begin
-for file in "$library"/*.cmi kinds.cmi refused.cmi; do
-    after_magic "$file" >> values.bin
-    wanted yes 'string * types_signature'
-    wanted yes misc_crcs
-    wanted yes 'cmi_format_pers_flags list'
-done
-after_magic kinds.cmi >> values.bin
-wanted no misc_crcs
-judged made/cmi.types values.bin wanted.tsv
+if [ -n "$plain" ]; then
+    begin
+    for file in "$library"/*.cmi kinds.cmi refused.cmi; do
+        $plain < "$file" | tail -c +13 >> values.bin
+        wanted yes 'string * types_signature'
+        wanted yes misc_crcs
+        wanted yes 'cmi_format_pers_flags list'
+    done
+    $plain < kinds.cmi | tail -c +13 >> values.bin
+    wanted no misc_crcs
+    judged made/cmi.types values.bin wanted.tsv
+fi
 
 begin
 for file in "$library"/*.cmo kinds.cmo by_hand.cmo; do
@@ -490,4 +651,10 @@ if [ "$failures" -gt 0 ]; then
     echo "$failures failed"
     exit 1
 fi
+for other in 4.13 5.3 5.4; do
+    case $version in
+        $other.*) ;;
+        *) echo "skipped: OCaml $other, as this is $version" ;;
+    esac
+done
 echo "all is as expected"

@@ -106,6 +106,15 @@ module Also_inner = Inner
 type an_alias = Also_inner.Innermost.t
 type a_made = Made.entry
 
+(* Generalized types (GADTs) at indices, with constructors that no value has; a type that gives an index *)
+type _ expr =
+  | Int : int -> int expr
+  | Bool : bool -> bool expr
+  | If : bool expr * 'a expr * 'a expr -> 'a expr
+  | Sum : int expr * int expr -> int expr
+
+type 'a program = { body : 'a expr; parts : 'a program list }
+
 (* What names all of these *)
 type all = {
   a : an_int * a_char * a_bool * a_unit * a_string * some_bytes * a_float * an_int32 * an_int64 * a_nativeint;
@@ -118,4 +127,5 @@ type all = {
   h : an_array_of_parameter * a_private * a_private_record * a_copy;
   i : int tree * even * odd * a_node * int rose;
   j : t * Yes.t * No.t * an_alias * a_made;
+  k : int expr * bool expr * int program;
 }

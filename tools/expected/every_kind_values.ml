@@ -125,6 +125,16 @@ let () =
   kind "made_entry" Made.[ { key = "one"; rest = [] } ] [ any "one"; any { Made.key = "one"; rest = Obj.magic 1 } ];
   kind "a_made" Made.[ { key = "one"; rest = [] } ] [ any { Made.key = "one"; rest = [ Obj.magic 1 ] } ]
 
+let () =
+  let one = Sum (Int 1, If (Bool true, Int 2, Int 3)) in
+  let kind name = kind ~arguments:"'none " name in
+  kind "expr_at_int" [ Int 1; one ] [ any (Bool true); any (Sum (Int 1, Obj.magic (Bool true))); any (If (Obj.magic one, one, one)) ];
+  kind "expr_at_bool"
+    [ Bool true; If (Bool true, Bool false, Bool true) ]
+    [ any (Int 1); any one; any (If (Bool true, Bool false, Obj.magic one)) ];
+  kind "program_at_int" [ { body = one; parts = [ { body = Int 1; parts = [] } ] } ]
+    [ any { body = Bool true; parts = [] }; any { body = one; parts = [ Obj.magic { body = Bool true; parts = [] } ] } ]
+
 (* What may be changed has one type, wherever it is; what may not may have two. *)
 let pair ?(arguments = ("", "")) verdict first second value =
   let word arguments name = arguments ^ "every_kind_" ^ name in

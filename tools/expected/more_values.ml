@@ -80,11 +80,46 @@ let indexed () =
   write "no" "indexed_all" { all with sealed = Obj.magic (Whole 1) };
   write "no" "indexed_all" { all with unboxed = Obj.magic (Some 6) }
 
+let textbook () =
+  let open Textbook in
+  let one = Add (Int 1, If (Bool true, Int 2, Int 3)) in
+  let all =
+    {
+      int = one;
+      bool = If (Bool true, Bool false, If (Bool true, Bool true, Bool false));
+      sum = Program { body = Bool true; parts = [ { body = Bool false; parts = [] } ] };
+      named = { pairs = [ (1, true) ]; name = "named" };
+      opened = `B 4;
+      empty = { lists = []; nothing = None; held = 5 };
+      tree = Tree (Labeled (Leaf one, [ Leaf (Int 6) ]));
+    }
+  in
+  write "yes" "'none textbook_expr_at_int" one;
+  write "no" "'none textbook_expr_at_int" (Add (Int 1, Obj.magic (Bool true)));
+  write "no" "'none textbook_expr_at_int" (Bool true);
+  write "no" "'none textbook_expr_at_int" (If (Obj.magic (Int 1), Int 2, Int 3));
+  write "no" "'none textbook_expr_at_bool" (Add (Int 1, Int 2));
+  write "no" "'none textbook_expr_at_bool" (If (Bool true, Bool false, Obj.magic (Int 3)));
+  write "yes" "'none textbook_all" all;
+  write "yes" "'none textbook_all" { all with sum = Constant true; opened = `A };
+  write "no" "'none textbook_all" { all with int = Obj.magic all.bool };
+  write "no" "'none textbook_all" { all with sum = Program { body = Obj.magic one; parts = [] } };
+  write "no" "'none textbook_all" { all with sum = Constant (Obj.magic 2) };
+  write "no" "'none textbook_all" { all with tree = Leaf (Obj.magic all.bool) };
+  write "no" "'none textbook_all" { all with tree = Tree (Labeled (Obj.magic 1, [])) };
+  write "no" "'none textbook_all" { all with named = { all.named with pairs = [ Obj.magic (1, 2) ] } };
+  write "no" "'none textbook_all" { all with opened = Obj.magic `C };
+  write "no" "'none textbook_all" { all with empty = { all.empty with lists = Obj.magic [ 1 ] } };
+  write "no" "'none textbook_all" { all with empty = { all.empty with nothing = Some (Obj.magic 0) } };
+  write "no" "'none textbook_all" { all with empty = { all.empty with held = Obj.magic "five" } }
+
 let shut () =
   output_string file Shut.saved;
   Printf.printf "yes\tshut_inner_file\n";
   write "no" "shut_inner_file" [ Shut.saved ]
 
 let () =
-  List.assoc Sys.argv.(1) [ ("applied", applied); ("copied", copied); ("indexed", indexed); ("shut", shut) ] ();
+  List.assoc Sys.argv.(1)
+    [ ("applied", applied); ("copied", copied); ("indexed", indexed); ("shut", shut); ("textbook", textbook) ]
+    ();
   close_out file

@@ -12,8 +12,10 @@ module type S = sig type t end
 
 type packed = (module S) list
 type any = Any : 'a -> any
+type _ numbered = Bool : bool numbered | Int : int numbered
 type _ expr = Int : int -> int expr | Not : bool expr -> bool expr
 type 'a of_expr = { expr : 'a expr }
+type some_expr = Some_expr : 'a of_expr -> some_expr
 type _ tagged = Hidden_one : hidden tagged | Int_one : int tagged
 
 and hidden

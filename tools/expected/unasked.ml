@@ -8,6 +8,11 @@ type _ known = Sealed : 'a * string * 'b list -> 'a sealed known | Whole : { mut
 (* Constant constructors of other indices, before one of this index *)
 type _ mark = First : int mark | Second : bool mark | Third : 'a -> 'a mark | Fourth : bool mark
 
+(* Records that OCaml lays out as blocks, as a function is no float *)
+type measure = { size : float; scale : float -> float }
+type scale = float -> float
+type scaled = { scaled : float; by : scale }
+
 type 'a record = { polymorphic : 'b. 'b list * 'a; array : 'a array }
 
 type all = {
@@ -33,8 +38,10 @@ type all = {
   nothing : Refused.nothing list;
   loop : Refused.loop;
   constrained : (int * bool) Refused.constrained;
-  wide : Refused.wide option;
   record : Obj.t record;
+  measure : measure;
+  scaled : scaled;
+  some_expr : Refused.some_expr;
   gone : Gone.t;
   cell : int ref;
 }

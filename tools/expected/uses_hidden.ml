@@ -7,6 +7,17 @@ end
 module Texts = Hidden.Make (Text_key)
 module Names = Map.Make (String)
 
+(* A module that is included behind a signature *)
+module Resealed = struct
+  include (
+    Hidden.Sealed :
+      sig
+        type t
+
+        val value : t
+      end)
+end
+
 (* OCaml does not know that these fields are floats, so the record is not flat. *)
 type pair = { left : Hidden.meters; mutable right : Hidden.meters }
 
@@ -20,4 +31,5 @@ type all = {
   sealed : Hidden.Sealed.t;
   renamed : Hidden.renamed * Hidden.public_name;
   counts : Hidden.counts;
+  resealed : Resealed.t;
 }

@@ -21,6 +21,7 @@ let all =
     sealed = Hidden.Sealed.value;
     renamed = (Hidden.renamed, Hidden.renamed);
     counts = Hidden.counts;
+    resealed = Resealed.value;
   }
 
 let () =
@@ -29,6 +30,7 @@ let () =
   write "no" "uses_hidden_all" { all with texts = Obj.magic (Some 1) };
   write "no" "uses_hidden_all" { all with sealed = Obj.magic 1 };
   write "no" "uses_hidden_all" { all with counts = Obj.magic all.names };
+  write "no" "uses_hidden_all" { all with resealed = Obj.magic 1 };
   write "yes" "uses_hidden_pair" pair;
   write "no" "uses_hidden_pair" [| 1.; 2. |];
   close_out file

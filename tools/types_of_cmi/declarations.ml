@@ -9,6 +9,7 @@ type expression =
   | Applied of name * expression list
   | Tuple of expression list
   | Polymorphic of (string * expression option) list
+  | Nothing  (** the type without values *)
 
 type field = { changes : bool; label : string; holds : expression }
 type arguments = Separate of expression list | Inline of field list
@@ -21,8 +22,8 @@ type body =
 (* The steps from the requested type to a part of it, the last one first. *)
 type way = string list
 
-(* Where a declaration was found: in an interface, in an implementation, or among the words. *)
-type origin = Shown | Hidden | By_hand
+(* Where a declaration was found: in an interface, in an implementation, in `known.ml`, or among the words. *)
+type origin = Shown | Hidden | Known | By_hand
 
 type declaration = {
   path : Path.t;
@@ -52,11 +53,13 @@ let keywords = [ "type"; "and"; "of"; "mutable" ]
 (* The module `Stdlib__Map` of the standard library is `Map` to its users. *)
 let module_name id = Option.value (Library.without "Stdlib__" (Ident.name id)) ~default:(Ident.name id)
 
-let rec path_text = function
-  | Path.Pident id -> module_name id
-  | Path.Pdot (Path.Pident id, name) when Ident.name id = "Stdlib" -> name
-  | Path.Pdot (path, name) -> path_text path ^ "." ^ name
-  | Path.Papply (functor_path, argument) -> path_text functor_path ^ "(" ^ path_text argument ^ ")"
+let rec path_text path =
+  match Compat.view path with
+  | Ident id -> module_name id
+  | Dot (Path.Pident id, name) when Ident.name id = "Stdlib" -> name
+  | Dot (path, name) -> path_text path ^ "." ^ name
+  | Apply (functor_path, argument) -> path_text functor_path ^ "(" ^ path_text argument ^ ")"
+  | Extra path -> path_text path
 
 (* omarshal's predeclared type that a path names. *)
 let predeclared path =
@@ -103,13 +106,17 @@ let parameter_name index =
   let letter = String.make 1 (Char.chr (Char.code 'a' + (index mod 26))) in
   if index < 26 then letter else letter ^ string_of_int (index / 26)
 
+(* The variable that stands for the type without values: no value matches a variable. The names of parameters are
+   shorter. *)
+let nothing_name = "none"
+
 (* {1 Walks over declarations} *)
 
 let rec iter_types ~inside_tags visit expression =
   visit expression;
   let iter = iter_types ~inside_tags visit in
   match expression with
-  | Variable _ -> ()
+  | Variable _ | Nothing -> ()
   | Applied (_, arguments) -> List.iter iter arguments
   | Tuple parts -> List.iter iter parts
   | Polymorphic tags -> if inside_tags then List.iter (fun (_, argument) -> Option.iter iter argument) tags
@@ -132,14 +139,14 @@ let names_in ~inside_tags body =
   let names = ref [] in
   let visit = function
     | Applied (Declared path, _) when not (List.exists (Path.same path) !names) -> names := path :: !names
-    | Applied _ | Variable _ | Tuple _ | Polymorphic _ -> ()
+    | Applied _ | Variable _ | Tuple _ | Polymorphic _ | Nothing -> ()
   in
   iter_body ~inside_tags visit body;
   List.rev !names
 
 let map_parts f expression =
   match expression with
-  | Variable _ -> expression
+  | Variable _ | Nothing -> expression
   | Applied (name, arguments) -> Applied (name, List.map f arguments)
   | Tuple parts -> Tuple (List.map f parts)
   | Polymorphic tags -> Polymorphic (List.map (fun (tag, argument) -> (tag, Option.map f argument)) tags)

@@ -9,7 +9,12 @@ let wrong_words format = Printf.ksprintf (fun text -> raise (Wrong_words text)) 
 
 (* {1 The reader} *)
 
-(* A generalized type (GADT) at an index, or at any one. It is declared by a name of its own, without parameters. *)
+(* A type has to be read at its arguments: it gives the index of a generalized type (GADT) by a parameter of its own, or is
+   named in its group at an argument that reaches the type without values. *)
+exception Gives_index of Path.t
+
+(* A type at an index, or at any one: a generalized type (GADT), one that gives an index, or one with a constraint on a
+   parameter. It is declared by a name of its own, without parameters. *)
 type instance = { generalized : Path.t; index : type_expr list option; own_path : Path.t }
 
 type reader = {
@@ -19,13 +24,14 @@ type reader = {
   mutable implementations : (string * Ident.t option) list;
       (** the modules of which it looked for one, with the name of what was found *)
   by_hand : type_declaration Path.Map.t;  (** the declarations given by `--declare` *)
+  giving : Path.Set.t;  (** the types that `Gives_index` named *)
   synonyms : Path.t Path.Map.t;  (** the types that these are for, by the names they have while they are read *)
   mutable texts : string Path.Map.t;  (** texts of types that have no path in OCaml *)
   mutable known : Path.Set.t;  (** the types that were reached *)
   mutable declarations : declaration list;  (** those that were read, the last one first *)
   mutable faults : fault list;  (** the last one first *)
   mutable notes : note list;  (** the last one first *)
-  mutable instances : instance list;  (** the generalized types (GADTs) that were reached *)
+  mutable instances : instance list;  (** the types at an index that were reached *)
   mutable wanted : string list;  (** files that were not found and may help *)
   waiting : (Path.t * way) Queue.t;  (** types reached and not read yet *)
 }
@@ -37,6 +43,7 @@ type scope = {
   owner : string;  (** the text of the declared type that is read *)
   variables : (type_expr * string) list;  (** the names of type variables *)
   parameters : string list;  (** those of the declaration that is read *)
+  declared : Path.t option;  (** its path, if it has parameters *)
   enclosing : enclosing list;
   way : way;
 }
@@ -98,19 +105,25 @@ let is_item_of signature item =
   List.exists (fun other -> Ident.same id (Types.signature_item_id other)) signature
 
 (* The type of a structure in which no module hides a type behind a signature, as in `module M : S = struct .. end`.
-   What an applied functor makes has the types of the application; an argument without a name is a module more. *)
+   What an applied functor makes has the types of the application; an argument without a name is a module more. What a
+   module includes behind a signature, as in `include (M : S)`, has the types of that module. *)
 let rec unsealed_structure environment { Typedtree.str_items; str_type; _ } =
   let environment = Env.add_signature str_type environment in
   let arguments = ref [] in
-  let application name expression =
-    match (unconstrained expression).Typedtree.mod_desc with
-    | Tmod_apply _ -> (
-        match applied_path environment name expression with
-        | Some (path, modules) ->
-            arguments := modules @ !arguments;
-            Some path
-        | None -> None)
-    | _ -> None
+  let application ?(is_included = false) name expression =
+    let is_application desc =
+      match desc with
+      | Typedtree.Tmod_apply _ -> true
+      | Tmod_ident _ -> is_included && expression != unconstrained expression
+      | _ -> Option.is_some (Compat.generative desc)
+    in
+    if not (is_application (unconstrained expression).Typedtree.mod_desc) then None
+    else
+      match applied_path environment name expression with
+      | Some (path, modules) ->
+          arguments := modules @ !arguments;
+          Some path
+      | None -> None
   in
   let bindings_of item =
     match item.Typedtree.str_desc with
@@ -124,7 +137,7 @@ let rec unsealed_structure environment { Typedtree.str_items; str_type; _ } =
   in
   let included index (expression, signature) =
     let name = Printf.sprintf "include %d" (index + 1) in
-    Option.map (fun path -> (path, signature)) (application name expression)
+    Option.map (fun path -> (path, signature)) (application ~is_included:true name expression)
   in
   let inclusions = List.filter_map Fun.id (List.mapi included (List.filter_map inclusion_of str_items)) in
   let unsealed_binding id declaration { Typedtree.mb_expr; _ } =
@@ -173,11 +186,16 @@ and applied_path environment name expression =
       let id = Ident.create_local name in
       let md_type = unsealed_module environment expression ~otherwise:expression.mod_type in
       Some (Path.Pident id, [ module_item id md_type ])
-  | _ -> None
+  | desc ->
+      let apply (applied, modules) =
+        let id = Ident.create_local ("argument of " ^ name) in
+        (Path.Papply (applied, Path.Pident id), module_item id (Mty_signature []) :: modules)
+      in
+      Option.map apply (Option.bind (Compat.generative desc) (applied_path environment ("functor of " ^ name)))
 
 (* The types of the implementation of a module, as a module of the environment, if its `.cmt` is found. *)
 let read_implementation reader name =
-  match Cmt_format.read_cmt (Library.find_file (name ^ ".cmt")) with
+  match Cmt_format.read_cmt (Compat.find_file (name ^ ".cmt")) with
   | { cmt_annots = Implementation structure; _ } as cmt ->
       if interface_digest cmt <> Some (Env.crc_of_unit name) then
         wrong_words "the .cmt of %s is of another interface than its .cmi" name;
@@ -197,56 +215,63 @@ let implementation reader name =
       found
 
 (* The module of a path that has files of its own. *)
-let rec unit_name = function
-  | Path.Pident id -> if Ident.persistent id then Some (Ident.name id) else None
-  | Path.Pdot (path, _) | Path.Papply (path, _) -> unit_name path
+let rec unit_name path =
+  match Compat.view path with
+  | Ident id -> if Ident.persistent id then Some (Ident.name id) else None
+  | Dot (path, _) | Apply (path, _) | Extra path -> unit_name path
 
 (* Remembers the file of that module as one that may help, where it is not found. *)
 let want reader path extension =
   let add name =
     let file = String.uncapitalize_ascii name ^ extension in
-    match Library.find_file file with _ -> () | exception Not_found -> reader.wanted <- file :: reader.wanted
+    match Compat.find_file file with _ -> () | exception Not_found -> reader.wanted <- file :: reader.wanted
   in
   Option.iter add (unit_name path)
 
 (* A path into the implementation of its module. *)
-let rec path_inside reader = function
-  | Path.Pident id when Ident.persistent id ->
+let rec path_inside reader path =
+  match Compat.view path with
+  | Ident id when Ident.persistent id ->
       Option.map (fun inside -> Path.Pident inside) (implementation reader (Ident.name id))
-  | Path.Pident _ -> None
-  | Path.Pdot (path, name) -> Option.map (fun inside -> Path.Pdot (inside, name)) (path_inside reader path)
-  | Path.Papply (path, argument) ->
+  | Ident _ -> None
+  | Dot (path, name) -> Option.map (fun inside -> Path.Pdot (inside, name)) (path_inside reader path)
+  | Apply (path, argument) ->
       Option.map (fun inside -> Path.Papply (inside, argument)) (path_inside reader path)
+  | Extra outer -> Option.map (fun inside -> Compat.with_outer inside path) (path_inside reader outer)
 
 let is_implementation reader id =
   List.exists (fun (_, found) -> Option.fold ~none:false ~some:(Ident.same id) found) reader.implementations
 
-let rec is_inside reader = function
-  | Path.Pident id -> is_implementation reader id
-  | Path.Pdot (path, _) | Path.Papply (path, _) -> is_inside reader path
+let rec is_inside reader path =
+  match Compat.view path with
+  | Ident id -> is_implementation reader id
+  | Dot (path, _) | Apply (path, _) | Extra path -> is_inside reader path
 
 let normalize reader path = Env.normalize_type_path None reader.environment path
 let find_shown reader path = try Some (Env.find_type path reader.environment) with Not_found -> None
 
-let is_predefined = function Path.Pident id -> Ident.is_predef id | Path.Pdot _ | Path.Papply _ -> false
+let is_predefined path =
+  match Compat.view path with Ident id -> Ident.is_predef id | Dot _ | Apply _ | Extra _ -> false
 
 let is_module reader path =
   match Env.find_module path reader.environment with _ -> true | exception Not_found -> false
 
 (* A path out of the implementations in it, where the interfaces have it. *)
-let rec path_outside reader = function
-  | Path.Pident id when is_implementation reader id -> Path.Pident (Ident.create_persistent (Ident.name id))
-  | Path.Pident _ as path -> path
-  | Path.Pdot (path, name) -> Path.Pdot (path_outside reader path, name)
-  | Path.Papply (path, argument) ->
+let rec path_outside reader path =
+  match Compat.view path with
+  | Ident id when is_implementation reader id -> Path.Pident (Ident.create_persistent (Ident.name id))
+  | Ident _ -> path
+  | Dot (path, name) -> Path.Pdot (path_outside reader path, name)
+  | Apply (path, argument) ->
       let outside = path_outside reader argument in
       Path.Papply (path_outside reader path, if is_module reader outside then outside else argument)
+  | Extra outer -> Compat.with_outer (path_outside reader outer) path
 
 (* Whether an interface has a type only as another name of one that it hides. *)
 let rec renames_hidden ?(is_renamed = false) reader path =
   match find_shown reader path with
   | Some declaration when Library.is_abstract declaration -> (
-      match Option.map Library.shape declaration.type_manifest with
+      match Option.map Compat.shape declaration.type_manifest with
       | None -> is_renamed && not (is_predefined path)
       | Some (Tconstr (target, _, _)) -> renames_hidden ~is_renamed:true reader (normalize reader target)
       | Some _ -> false)
@@ -260,14 +285,27 @@ let canonical reader path =
   let path = if Option.is_some (find_shown reader outside) && not is_another_name then outside else path in
   try Path.Map.find path reader.synonyms with Not_found -> path
 
-(* Where an interface hides a type, what the implementation has. *)
+let shows_nothing declaration = declaration.type_manifest = None && Library.is_abstract declaration
+
+(* The declaration of a type that `known.ml` has. *)
+let find_known reader path =
+  let read text =
+    match Library.type_declarations reader.environment (Library.signature text) with
+    | [ (_, declaration) ] -> Some (Known, declaration)
+    | _ -> None
+  in
+  Option.bind (List.assoc_opt (Path.name path) Known.declarations) read
+
+(* Where an interface hides a type, what the implementation has, and where this hides it too, what is known of it. *)
 let find_declaration reader path =
+  let known found = match find_known reader path with Some known -> Some known | None -> Some found in
   match (Path.Map.find_opt path reader.by_hand, find_shown reader path) with
   | Some declaration, _ -> Some (By_hand, declaration)
-  | None, Some ({ type_manifest = None; _ } as hidden) when reader.looks_inside && Library.is_abstract hidden -> (
+  | None, Some hidden when reader.looks_inside && shows_nothing hidden -> (
       match Option.bind (path_inside reader path) (find_shown reader) with
+      | Some declaration when shows_nothing declaration -> known (Hidden, declaration)
       | Some declaration -> Some (Hidden, declaration)
-      | None -> Some (Shown, hidden))
+      | None -> known (Shown, hidden))
   | None, shown ->
       let origin = if is_inside reader path then Hidden else Shown in
       Option.map (fun declaration -> (origin, declaration)) shown

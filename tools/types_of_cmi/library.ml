@@ -1,4 +1,4 @@
-(* The compiler's library. What depends on its version stands here alone. *)
+(* Helpers over the compiler's library. What depends on its version is in compat.ml. *)
 
 open Types
 
@@ -7,18 +7,16 @@ let without prefix text =
   let length = String.length prefix in
   if String.starts_with ~prefix text then Some (String.sub text length (String.length text - length)) else None
 
-(* From 4.14 on `type_expr` and `row_desc` are abstract, and the first five are `eq_type`, `get_desc`, `row_fields`,
-   `row_closed` and `row_field_repr` of `Types`. *)
-let same ty other = Btype.repr ty == Btype.repr other
-let shape ty = (Btype.repr ty).desc
-let tags row = (Btype.row_repr row).row_fields
-let is_closed row = (Btype.row_repr row).row_closed
-let presence field = Btype.row_field_repr field
-let find_file name = Load_path.find_uncap name
-
 (* Whether a declaration shows no representation of its own. *)
 let is_abstract declaration =
   match declaration.type_kind with Type_record _ | Type_variant _ | Type_open -> false | _ -> true
+
+let signature text = Parse.interface (Lexing.from_string text)
+
+(* The declarations of a signature, in order, as the compiler reads them. *)
+let type_declarations environment signature =
+  let declared = function Sig_type (id, declaration, _, _) -> Some (id, declaration) | _ -> None in
+  List.filter_map declared (Typemod.type_interface environment signature).Typedtree.sig_type
 
 let one_line text =
   let is_text line = line <> "" in

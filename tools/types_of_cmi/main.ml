@@ -5,8 +5,8 @@
    parts. Those whose representation omarshal cannot state are refused, each with the way to it; with --any nothing is
    asked of them, and each is reported.
 
-   tools/build_types_of_cmi.sh builds it. Written for OCaml 4.13, and tried there alone. What later libraries name
-   otherwise is in `library.ml`. *)
+   tools/build_types_of_cmi.sh builds it for OCaml 4.13 to 5.4. What differs between these is in compat/. It was tried
+   with 4.13.1, 4.14.1, 5.3.0 and 5.4.1. *)
 
 open Types
 open Declarations
@@ -28,6 +28,7 @@ let usage =
    DECLARATION says what a type is that its module hides, or that has no form, as\n\
    \"'a Foo.t = Nil | More of 'a * 'a Foo.t\". Its left side is the type's full name; types of its\n\
    own may follow with `and`. Of a part of type `_` nothing is asked: \"Foo.t = _\", or `Foo.t * _`.\n\n\
+   A part that no value has is the variable 'none, and so TYPE for omarshal may have this variable.\n\n\
    With --any each part that has no form is `_`. Each part of which less is asked than OCaml has\n\
    is reported on standard error, with the way to it.\n\n\
    Status 0: done. 1: a type has no form in omarshal, each such type is reported with the way to it;\n\
@@ -99,17 +100,12 @@ let in_word word read =
   | Wrong_words _ as error -> raise error
   | error -> wrong_words "%s: %s" word (Library.message error)
 
-(* The declarations of a signature, in order, as the compiler reads them. *)
-let type_declarations environment signature =
-  let declared = function Sig_type (id, declaration, _, _) -> Some (id, declaration) | _ -> None in
-  List.filter_map declared (Typemod.transl_signature environment signature).Typedtree.sig_type
-
 (* `_` is the name of a type that is abstract. *)
 let add_any environment =
   let add environment (_, declaration) =
     Env.add_type ~check:false (Ident.create_scoped ~scope:Ident.lowest_scope any_name) declaration environment
   in
-  List.fold_left add environment (type_declarations environment (Parse.interface (Lexing.from_string "type t")))
+  List.fold_left add environment (Library.type_declarations environment (Library.signature "type t"))
 
 let environment folders =
   Clflags.include_dirs := List.rev folders;
@@ -119,10 +115,12 @@ let environment folders =
   Compmisc.init_path ();
   add_any (Compmisc.initial_env ())
 
-let rec longident_of_path = function
-  | Path.Pident id -> Longident.Lident (Ident.name id)
-  | Path.Pdot (path, name) -> Longident.Ldot (longident_of_path path, name)
-  | Path.Papply (path, argument) -> Longident.Lapply (longident_of_path path, longident_of_path argument)
+let rec longident_of_path path =
+  match Compat.view path with
+  | Ident id -> Longident.Lident (Ident.name id)
+  | Dot (path, name) -> Compat.long_dot (longident_of_path path) name
+  | Apply (path, argument) -> Compat.long_apply (longident_of_path path) (longident_of_path argument)
+  | Extra path -> longident_of_path path
 
 (* The name of a module, by the module that has it, of which the implementation is then in the environment. *)
 let rec in_implementation reader name =
@@ -132,17 +130,17 @@ let rec in_implementation reader name =
       ignore (path_inside reader path);
       longident_of_path path
   | exception Not_found -> (
-      match name with
-      | Longident.Ldot (outer, last) -> Longident.Ldot (in_implementation reader outer, last)
-      | Lident _ | Lapply _ -> name)
+      match Compat.name_view name with
+      | Long_dot (outer, last) -> Compat.long_dot (in_implementation reader outer) last
+      | Long_ident _ | Long_apply -> name)
 
 (* The name of a type, by the implementation of its module where no interface has it. *)
 let name_inside (reader : reader) name =
   match Env.find_type_by_name name reader.environment with
   | _ -> name
   | exception Not_found -> (
-      match name with
-      | Longident.Ldot (owner, last) when reader.looks_inside -> Longident.Ldot (in_implementation reader owner, last)
+      match Compat.name_view name with
+      | Long_dot (owner, last) when reader.looks_inside -> Compat.long_dot (in_implementation reader owner) last
       | _ -> name)
 
 let names_inside reader =
@@ -161,7 +159,7 @@ let requested_type reader word =
       let manifest = names.typ names (Parse.core_type (Lexing.from_string word)) in
       let declaration = Ast_helper.Type.mk ~manifest (Location.mknoloc "requested") in
       let signature = [ Ast_helper.Sig.type_ Asttypes.Nonrecursive [ declaration ] ] in
-      match type_declarations reader.environment signature with
+      match Library.type_declarations reader.environment signature with
       | [ (_, { type_manifest = Some ty; _ }) ] -> ty
       | _ -> wrong_words "%s: no type" word)
 
@@ -192,8 +190,8 @@ let add_by_hand reader word =
       let body = String.sub word equals (String.length word - equals) in
       let text = Printf.sprintf "type %sdeclared_by_hand %s" (print_parameters names) body in
       let inside = names_inside reader in
-      let signature = inside.signature inside (Parse.interface (Lexing.from_string text)) in
-      match (signature, type_declarations reader.environment signature) with
+      let signature = inside.signature inside (Library.signature text) in
+      match (signature, Library.type_declarations reader.environment signature) with
       | [ { psig_desc = Psig_type _; _ } ], (id, declaration) :: others ->
           let own_text = text_of_path reader path in
           let owner = try String.sub own_text 0 (String.rindex own_text '.' + 1) with Not_found -> "" in
@@ -213,6 +211,7 @@ let new_reader environment ~looks_inside ~lets_any =
     lets_any;
     implementations = [];
     by_hand = Path.Map.empty;
+    giving = Path.Set.empty;
     synonyms = Path.Map.empty;
     texts = Path.Map.empty;
     known = Path.Set.empty;
@@ -251,15 +250,22 @@ let run arguments =
   let { looks_inside; lets_any; by_hand; _ } = words in
   let reader = List.fold_left add_by_hand (new_reader environment ~looks_inside ~lets_any) by_hand in
   let requested = requested_type reader words.requested in
-  let scope = { variables = []; parameters = []; enclosing = []; way = []; owner = "requested" } in
-  let read () =
+  let scope = { variables = []; parameters = []; declared = None; enclosing = []; way = []; owner = "requested" } in
+  let read_once reader =
     let root = read_type reader scope requested in
     read_waiting reader;
-    root
+    let declarations, root = with_nothing (if reader.faults = [] then List.rev reader.declarations else []) root in
+    (settled_groups reader declarations, root)
   in
-  let root = in_word words.requested read in
-  let declarations = if reader.faults = [] then List.rev reader.declarations else [] in
-  let table, groups = settled_groups reader declarations in
+  let rec read first =
+    let reader = { first with waiting = Queue.create () } in
+    match read_once reader with
+    | (table, groups), root -> (reader, table, groups, root)
+    | exception Gives_index path ->
+        let { environment; implementations; _ } = reader in
+        read { first with environment; implementations; giving = Path.Set.add path first.giving }
+  in
+  let reader, table, groups, root = in_word words.requested (fun () -> read reader) in
   let faults = if reader.faults = [] then List.map fault_of_note reader.notes else reader.faults in
   List.iter print_fault (List.rev faults);
   print_wanted reader.wanted;

@@ -31,11 +31,14 @@ let declare_enclosing reader scope path expression =
   in
   reader.declarations <- declaration :: reader.declarations
 
-let is_variable ty = match Library.shape ty with Tvar _ -> true | _ -> false
+(* OCaml lays out a tuple with labels as the one without. *)
+let unlabeled parts = List.map snd (Compat.labeled_parts parts)
+
+let is_variable ty = match Compat.shape ty with Tvar _ -> true | _ -> false
 
 let rec are_distinct = function
   | [] -> true
-  | ty :: others -> (not (List.exists (Library.same ty) others)) && are_distinct others
+  | ty :: others -> (not (List.exists (Compat.same ty) others)) && are_distinct others
 
 (* The names of parameters, where these are distinct variables. *)
 let name_variables types parameters =
@@ -48,7 +51,7 @@ let name_variables types parameters =
 (* Whether the result of a constructor is not the type at distinct variables. *)
 let is_generalized declaration =
   let is_general { cd_res; _ } =
-    match Option.map Library.shape cd_res with
+    match Option.map Compat.shape cd_res with
     | Some (Tconstr (_, arguments, _)) -> not (List.for_all is_variable arguments && are_distinct arguments)
     | Some _ | None -> false
   in
@@ -56,12 +59,17 @@ let is_generalized declaration =
   | Type_variant (constructors, _) -> List.exists is_general constructors
   | _ -> false
 
-(* A generalized type that a type is, after its abbreviations: its path and its index. *)
+let has_constraint { type_params; _ } = not (List.for_all is_variable type_params && are_distinct type_params)
+
+(* A type at an index that a type is, after its abbreviations: its path and its index. *)
 let rec as_generalized reader ty =
-  match Library.shape ty with
+  match Compat.shape ty with
   | Tconstr (path, arguments, _) when predeclared (canonical reader path) = None -> (
       let path = canonical reader path in
-      let own declaration = if is_generalized declaration then Some (path, arguments) else None in
+      let has_index declaration =
+        is_generalized declaration || has_constraint declaration || Path.Set.mem path reader.giving
+      in
+      let own declaration = if has_index declaration then Some (path, arguments) else None in
       match find_declaration reader path with
       | None -> None
       | Some ((Shown | Hidden), ({ type_manifest = Some manifest; type_params; _ } as declaration)) -> (
@@ -74,7 +82,7 @@ let rec as_generalized reader ty =
 (* The type by the paths that `canonical` gives, its abbreviations expanded where they show or a `.cmt` has them. A
    private one is another type than what it abbreviates. *)
 let rec plain ?(expanded = []) reader ty =
-  match Library.shape ty with
+  match Compat.shape ty with
   | Tconstr (path, arguments, _) -> (
       let path = canonical reader path in
       let arguments = List.map (plain ~expanded reader) arguments in
@@ -86,7 +94,9 @@ let rec plain ?(expanded = []) reader ty =
           plain ~expanded:(path :: expanded) reader ty
       | Some (Hidden, _) -> at (Option.value (path_inside reader path) ~default:path)
       | _ -> at path)
-  | Ttuple parts -> Btype.newgenty (Ttuple (List.map (plain ~expanded reader) parts))
+  | Ttuple parts ->
+      let plain_part (label, part) = (label, plain ~expanded reader part) in
+      Btype.newgenty (Compat.tuple (List.map plain_part (Compat.labeled_parts parts)))
   | _ -> ty
 
 let largest_index = 30
@@ -99,17 +109,20 @@ let index_fault index =
     incr parts;
     if !parts > largest_index then
       raise (Found (Printf.sprintf "a generalized type (GADT) at an index of more than %d parts" largest_index));
-    match Library.shape ty with
-    | Tvar _ | Tunivar _ -> raise (Found "a generalized type (GADT) at an index that is not known")
-    | _ -> Btype.iter_type_expr visit (Btype.repr ty)
+    match Compat.shape ty with
+    | Tvar _ -> raise (Found "a generalized type (GADT) at an existential index")
+    | Tunivar _ -> raise (Found "a generalized type (GADT) at an index of a polymorphic field")
+    | _ -> Compat.iter_parts visit ty
   in
   match List.iter visit index with () -> None | exception Found what -> Some what
 
 let rec text_of_type reader ty =
   let text = text_of_type reader in
-  match Library.shape ty with
+  match Compat.shape ty with
   | Tconstr (path, arguments, _) -> text_of_index reader arguments ^ text_of_path reader (path_outside reader path)
-  | Ttuple parts -> "(" ^ String.concat " * " (List.map text parts) ^ ")"
+  | Ttuple parts ->
+      let text_of_part (label, part) = Option.fold ~none:"" ~some:(fun label -> label ^ ":") label ^ text part in
+      "(" ^ String.concat " * " (List.map text_of_part (Compat.labeled_parts parts)) ^ ")"
   | _ -> Library.one_line (Format.asprintf "%a" Printtyp.type_expr ty)
 
 and text_of_index reader = function
@@ -141,13 +154,21 @@ let reach_instance reader scope path index =
   reach reader scope.way own_path;
   Applied (Declared own_path, [])
 
+(* A type that gives an index is itself read at an index, from the beginning on. *)
 let read_generalized reader scope path arguments =
-  match index_fault arguments with
-  | None -> reach_instance reader scope path (Some (List.map (plain reader) arguments))
-  | Some what when reader.lets_any ->
+  let gives { declared; variables; _ } =
+    match declared with
+    | Some declared when List.exists (fun (variable, _) -> List.exists (Ctype.deep_occur variable) arguments) variables ->
+        Some declared
+    | _ -> None
+  in
+  match (index_fault arguments, gives scope) with
+  | None, _ -> reach_instance reader scope path (Some (List.map (plain reader) arguments))
+  | Some _, Some declared -> raise (Gives_index declared)
+  | Some what, None when reader.lets_any ->
       note reader ~instead:"all its constructors, of" (text_of_path reader path :: scope.way) what;
       reach_instance reader scope path None
-  | Some what -> refuse reader (text_of_path reader path :: scope.way) what
+  | Some what, None -> refuse reader (text_of_path reader path :: scope.way) what
 
 let fault_name reader scope = fault reader scope.way "a name that omarshal cannot write"
 
@@ -156,7 +177,7 @@ let refuse_missing reader path way =
   refuse reader way "a type of which no .cmi was found"
 
 let rec read_type reader scope ty =
-  match List.find_opt (fun { around; _ } -> Library.same around ty) scope.enclosing with
+  match List.find_opt (fun { around; _ } -> Compat.same around ty) scope.enclosing with
   | Some enclosing -> Applied (Declared (name_of_enclosing reader enclosing), variables_of scope.parameters)
   | None -> (
       let enclosing = { around = ty; own_name = None } in
@@ -173,7 +194,7 @@ and read_parts reader scope ty =
   | None -> read_shape reader scope ty
 
 and read_shape reader scope ty =
-  match Library.shape ty with
+  match Compat.shape ty with
   | Tconstr (path, arguments, _) -> (
       let path = canonical reader path in
       let read_arguments () = List.map (read_type reader scope) arguments in
@@ -188,24 +209,23 @@ and read_shape reader scope ty =
           let arguments = read_arguments () in
           reach reader scope.way path;
           Applied (Declared path, arguments))
-  | Ttuple parts -> Tuple (List.map (read_type reader scope) parts)
+  | Ttuple parts -> Tuple (List.map (read_type reader scope) (unlabeled parts))
   | Tvariant row -> read_row reader scope row
-  | Tpoly (ty, variables) when variables = [] || reader.lets_any -> read_type reader scope ty
+  | Tpoly (ty, _) -> read_type reader scope ty
   | Tvar _ -> (
-      match List.find_opt (fun (variable, _) -> Library.same variable ty) scope.variables with
+      match List.find_opt (fun (variable, _) -> Compat.same variable ty) scope.variables with
       | Some (_, name) -> Variable name
       | None -> refuse reader scope.way "an existential type")
-  | Tunivar _ -> refuse reader scope.way "a variable of a polymorphic field"
+  | Tunivar _ -> Nothing
   | Tarrow _ -> refuse reader scope.way "a function"
   | Tobject _ | Tfield _ | Tnil -> refuse reader scope.way "an object"
   | Tpackage _ -> refuse reader scope.way "a first-class module"
-  | Tpoly _ -> refuse reader scope.way "a polymorphic field"
   | Tlink _ | Tsubst _ -> refuse reader scope.way "a type that the compiler has not finished"
 
 (* The tags are sorted, since the compiler keeps no written order. `[> ..]` is open, and `[< ..]` has tags that may be
    absent. *)
 and read_row reader scope row =
-  let tags = List.map (fun (tag, field) -> (tag, Library.presence field)) (Library.tags row) in
+  let tags = List.map (fun (tag, field) -> (tag, Compat.presence field)) (Compat.tags row) in
   let tags = List.filter (fun (_, presence) -> presence <> Rabsent) tags in
   let is_bounded = List.exists (function _, Reither _ -> true | _ -> false) tags in
   let read_tag = function
@@ -215,7 +235,7 @@ and read_row reader scope row =
         Some (tag, Option.map (read_type reader scope) argument)
     | _, (Reither _ | Rabsent) -> None
   in
-  if not (Library.is_closed row) then refuse reader scope.way "an open polymorphic variant"
+  if not (Compat.is_closed row) then refuse reader scope.way "an open polymorphic variant"
   else if is_bounded then refuse reader scope.way "a bounded polymorphic variant"
   else if tags = [] then refuse reader scope.way "an empty polymorphic variant"
   else Polymorphic (List.sort (fun (tag, _) (other, _) -> compare tag other) (List.filter_map read_tag tags))
@@ -227,9 +247,8 @@ let check_name reader scope name =
   if not (is_identifier name) || List.mem name keywords then fault_name reader scope
 
 (* What is read where a type is known without: OCaml made the fields of a flat record floats, whatever names they were
-   given; and of the parts of a constructor that is there for its number nothing is asked. *)
+   given. *)
 let as_float _ _ _ = Applied (Predeclared "float", [])
-let as_any _ _ _ = any
 
 let read_field read reader scope { ld_id; ld_mutable; ld_type; _ } =
   let label = Ident.name ld_id in
@@ -237,39 +256,39 @@ let read_field read reader scope { ld_id; ld_mutable; ld_type; _ } =
   check_name reader scope label;
   { changes = ld_mutable = Asttypes.Mutable; label; holds = read reader scope ld_type }
 
-let read_arguments read reader scope = function
-  | Cstr_record labels -> Inline (List.map (read_field read reader scope) labels)
-  | Cstr_tuple [ ty ] -> Separate [ read reader scope ty ]
+let read_arguments reader scope = function
+  | Cstr_record labels -> Inline (List.map (read_field read_type reader scope) labels)
+  | Cstr_tuple [ ty ] -> Separate [ read_type reader scope ty ]
   | Cstr_tuple types ->
-      let read_part index ty = read reader (step scope (Printf.sprintf "argument %d" (index + 1))) ty in
+      let read_part index ty = read_type reader (step scope (Printf.sprintf "argument %d" (index + 1))) ty in
       Separate (List.mapi read_part types)
 
 (* A constructor written with a result, as in `A : int -> t`, is an ordinary one where the result is the type at
    distinct variables. *)
 let constructor_variables scope { cd_res; _ } =
-  match Option.map Library.shape cd_res with
+  match Option.map Compat.shape cd_res with
   | Some (Tconstr (_, arguments, _)) -> List.combine arguments scope.parameters
   | Some _ | None -> scope.variables
 
-let read_constructor read reader scope constructor =
-  let name = Ident.name constructor.cd_id in
-  let scope = step scope ("constructor " ^ name) in
-  if constructor_name name = name then check_name reader scope name;
-  let variables = constructor_variables scope constructor in
-  (name, read_arguments read reader { scope with variables } constructor.cd_args)
-
-(* A constructor as it is read, or one that is there for its number *)
-type kept = Asked of constructor_declaration | Unasked of constructor_declaration
-
-let read_kept reader scope = function
-  | Asked constructor -> read_constructor read_type reader scope constructor
-  | Unasked constructor -> read_constructor as_any reader scope constructor
+(* A constructor as it is read, or one that no value has and that is there for its number *)
+type kept = Asked of constructor_declaration | Without_values of constructor_declaration
 
 let is_constant { cd_args; _ } = cd_args = Cstr_tuple []
 
+let read_kept reader scope kept =
+  let (Asked constructor | Without_values constructor) = kept in
+  let name = Ident.name constructor.cd_id in
+  let scope = step scope ("constructor " ^ name) in
+  if constructor_name name = name then check_name reader scope name;
+  match kept with
+  | Asked _ ->
+      let variables = constructor_variables scope constructor in
+      (name, read_arguments reader { scope with variables } constructor.cd_args)
+  | Without_values _ -> (name, Separate (if is_constant constructor then [] else [ Nothing ]))
+
 let read_variant reader scope constructors =
-  let has_arguments = function Asked constructor | Unasked constructor -> not (is_constant constructor) in
-  if constructors = [] then Abbreviation (refuse reader scope.way "a variant without constructors")
+  let has_arguments = function Asked constructor | Without_values constructor -> not (is_constant constructor) in
+  if constructors = [] then Abbreviation Nothing
   else if List.length (List.filter has_arguments constructors) > 244 then
     Abbreviation (refuse reader scope.way "a variant of more than 244 constructors with arguments")
   else
@@ -281,21 +300,22 @@ type at_index = At_it of constructor_declaration | At_another | Not_known
 
 let at_index reader parameters index ({ cd_args; cd_res; _ } as constructor) =
   let result =
-    match Option.map Library.shape cd_res with Some (Tconstr (_, arguments, _)) -> arguments | _ -> parameters
+    match Option.map Compat.shape cd_res with Some (Tconstr (_, arguments, _)) -> arguments | _ -> parameters
   in
   let parts =
     match cd_args with
     | Cstr_tuple types -> types
     | Cstr_record labels -> List.map (fun { ld_type; _ } -> ld_type) labels
   in
-  let tuple types = Btype.newgenty (Ttuple types) in
+  let tuple types = Btype.newgenty (Compat.tuple (List.map (fun ty -> (None, ty)) types)) in
   let all = tuple [ tuple (List.map (plain reader) result); tuple index; tuple parts ] in
-  match Library.shape (Ctype.instance all) with
-  | Ttuple [ result; index; parts ] -> (
+  let tuple_parts ty = match Compat.shape ty with Ttuple parts -> unlabeled parts | _ -> [] in
+  match tuple_parts (Ctype.instance all) with
+  | [ result; index; parts ] -> (
       let before = Btype.snapshot () in
       match Ctype.unify reader.environment result index with
       | () ->
-          let parts = match Library.shape parts with Ttuple parts -> parts | _ -> [] in
+          let parts = tuple_parts parts in
           let cd_args =
             match cd_args with
             | Cstr_tuple _ -> Cstr_tuple parts
@@ -309,9 +329,10 @@ let at_index reader parameters index ({ cd_args; cd_res; _ } as constructor) =
           | exception Ctype.Incompatible -> At_another))
   | _ -> Not_known
 
-(* The constructors of a generalized type at an index. One of another index is left out where none comes after it that
-   OCaml numbers with it; else its number would be given to another. Each is kept that may be of the index, and all are
-   of any index; the types that only its result determines are existential ones then. *)
+(* The constructors of a type at an index. One of another index is left out where none comes after it that OCaml numbers
+   with it; else its number would be given to another. It is kept with a part that has no value, or, where it has no
+   parts, with --any alone. Each is kept that may be of the index, and all are of any index; the types that only its
+   result determines are existential ones then. *)
 let constructors_at reader scope parameters index constructors =
   let without_result constructor = { constructor with cd_res = None } in
   let rec keep = function
@@ -327,10 +348,11 @@ let constructors_at reader scope parameters index constructors =
         | At_it constructor -> Asked constructor :: keep others
         | Not_known ->
             kept "a generalized constructor (GADT) that may be of another index" (Asked (without_result constructor))
-        | At_another when List.exists is_numbered_with others ->
-            let what = "a generalized constructor (GADT) of another index, before others" in
-            kept what (Unasked (without_result constructor))
-        | At_another -> keep others)
+        | At_another when not (List.exists is_numbered_with others) -> keep others
+        | At_another when is_constant constructor ->
+            kept "a constant generalized constructor (GADT) of another index, before others"
+              (Without_values (without_result constructor))
+        | At_another -> Without_values (without_result constructor) :: keep others)
   in
   match index with
   | None -> List.map (fun constructor -> Asked (without_result constructor)) constructors
@@ -356,12 +378,14 @@ let hidden_kind reader path declaration =
   match (Path.last path, declaration.type_kind) with
   | "lazy_t", _ when is_predefined path -> "a lazy value"
   | "exn", _ when is_predefined path -> "an exception"
+  | "iarray", _ when is_predefined path -> "an immutable array (iarray)"
+  | "atomic_loc", _ when is_predefined path -> "an atomic location"
   | _, Type_open -> "an extensible variant"
   | _ -> abstract_kind reader path
 
 (* A type that is written again, as `type t = Other.t = A | B`, is the other one, where that one is found. *)
 let repeats_a_known_type reader path declaration =
-  match Option.map Library.shape declaration.type_manifest with
+  match Option.map Compat.shape declaration.type_manifest with
   | Some (Tconstr (other, _, _)) ->
       let other = canonical reader other in
       (not (Path.same other path)) && Option.is_some (find_declaration reader other)
@@ -369,6 +393,8 @@ let repeats_a_known_type reader path declaration =
 
 let read_body reader scope path declaration =
   match (declaration.type_kind, declaration.type_manifest) with
+  | _ when Path.name path = "Stdlib__Domain.DLS.key" ->
+      Abbreviation (refuse reader scope.way "a key of domain-local storage (Domain.DLS)")
   | (Type_record _ | Type_variant _), Some manifest when repeats_a_known_type reader path declaration ->
       Abbreviation (read_type reader scope manifest)
   | Type_record ([ label ], Record_unboxed _), _ ->
@@ -381,7 +407,13 @@ let read_body reader scope path declaration =
   | Type_variant (constructors, _), _ ->
       read_variant reader scope (List.map (fun constructor -> Asked constructor) constructors)
   | _, Some manifest -> Abbreviation (read_type reader scope manifest)
-  | _, None -> Abbreviation (refuse reader scope.way (hidden_kind reader path declaration))
+  | _, None -> (
+      match (hidden_kind reader path declaration, scope.parameters) with
+      (* A lazy value is a block that omarshal does not read, or its content once this is computed. *)
+      | ("a lazy value" as what), [ parameter ] when reader.lets_any ->
+          note reader ~instead:"its content, for" scope.way what;
+          Abbreviation (Variable parameter)
+      | what, _ -> Abbreviation (refuse reader scope.way what))
 
 let read_declaration reader path way (origin, declaration) =
   let parameters = List.mapi (fun index _ -> parameter_name index) declaration.type_params in
@@ -389,23 +421,37 @@ let read_declaration reader path way (origin, declaration) =
     match name_variables declaration.type_params parameters with
     | None -> Abbreviation (refuse reader way "a parameter with a constraint")
     | Some variables ->
-        let scope = { variables; parameters; enclosing = []; way; owner = text_of_path reader path } in
+        let owner = text_of_path reader path in
+        let scope = { variables; parameters; declared = Some path; enclosing = []; way; owner } in
         read_body reader scope path declaration
   in
   reader.declarations <- { path; parameters; body; origin; reached = way } :: reader.declarations
 
+(* A declaration with its index in place of its parameters. *)
+let at_arguments reader declaration index =
+  let declaration = Ctype.instance_declaration declaration in
+  let give parameter argument = Ctype.unify reader.environment parameter (Ctype.instance argument) in
+  List.iter2 give declaration.type_params index;
+  declaration
+
 let read_instance reader way { generalized; index; own_path } =
+  let scope =
+    let owner = text_of_path reader own_path in
+    { variables = []; parameters = []; declared = None; enclosing = []; way; owner }
+  in
+  let declare origin body =
+    reader.declarations <- { path = own_path; parameters = []; body; origin; reached = way } :: reader.declarations
+  in
   match find_declaration reader generalized with
   | Some (origin, { type_kind = Type_variant (constructors, representation); type_params; _ }) ->
-      let owner = text_of_path reader own_path in
-      let scope = { variables = []; parameters = []; enclosing = []; way; owner } in
-      let body =
-        match (constructors_at reader scope type_params index constructors, representation) with
+      declare origin
+        (match (constructors_at reader scope type_params index constructors, representation) with
         | [ constructor ], Variant_unboxed -> read_unboxed reader scope constructor
-        | constructors, _ -> read_variant reader scope constructors
-      in
-      reader.declarations <- { path = own_path; parameters = []; body; origin; reached = way } :: reader.declarations
-  | _ -> ignore (refuse_missing reader generalized way)
+        | constructors, _ -> read_variant reader scope constructors)
+  | Some (origin, declaration) ->
+      let declaration = Option.fold ~none:declaration ~some:(at_arguments reader declaration) index in
+      declare origin (read_body reader scope generalized declaration)
+  | None -> ignore (refuse_missing reader generalized way)
 
 (* Reads what waits, nearest types first, until nothing does. *)
 let rec read_waiting reader =

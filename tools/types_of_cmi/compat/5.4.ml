@@ -1,0 +1,41 @@
+(* What differs between versions of the compiler's library, for OCaml 5.4. *)
+
+open Types
+
+let same = eq_type
+let shape = get_desc
+let iter_parts visit ty = Btype.iter_type_expr visit ty
+let tags = row_fields
+let is_closed = row_closed
+let presence = row_field_repr
+let find_file name = Load_path.find_normalized name
+
+(* The parts of a tuple with their labels, which are there from 5.4 on, and the tuple of such parts *)
+let labeled_parts parts = parts
+let tuple parts = Ttuple parts
+
+(* A path. From 5.1 on the type of an inline record has one, inside that of its variant. *)
+type path = Ident of Ident.t | Dot of Path.t * string | Apply of Path.t * Path.t | Extra of Path.t
+
+let view = function
+  | Path.Pident id -> Ident id
+  | Path.Pdot (path, name) -> Dot (path, name)
+  | Path.Papply (path, argument) -> Apply (path, argument)
+  | Path.Pextra_ty (path, _) -> Extra path
+
+(* The path of the same inline record inside another variant *)
+let with_outer outer = function Path.Pextra_ty (_, extra) -> Path.Pextra_ty (outer, extra) | _ -> outer
+
+(* A name, the parts of which have locations from 5.4 on *)
+type name = Long_ident of string | Long_dot of Longident.t * string | Long_apply
+
+let name_view = function
+  | Longident.Lident name -> Long_ident name
+  | Longident.Ldot (outer, last) -> Long_dot (outer.txt, last.txt)
+  | Longident.Lapply _ -> Long_apply
+
+let long_dot outer last = Longident.Ldot (Location.mknoloc outer, Location.mknoloc last)
+let long_apply name argument = Longident.Lapply (Location.mknoloc name, Location.mknoloc argument)
+
+(* The functor that a module applies to `()`. From 5.1 on this has a form of its own. *)
+let generative = function Typedtree.Tmod_apply_unit applied -> Some applied | _ -> None
