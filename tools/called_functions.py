@@ -35,12 +35,12 @@ EXCEPTIONS = [
     (OUT_OF_MEMORY, 'called only where an allocation fails'),
     ('*::<* as From<Memory>>::from', 'called only where memory runs out'),
     ('test_oracles::refusal::<Refusal as fmt::Debug>::fmt', 'prints a refusal with a number of more than 64 bits, and no answer has one'),
-    ('test_units::environment::edge::<FailsOnce as Write>::flush', 'the trait asks for it, and no test flushes'),
+    ('test_units::environment_tests::edge::<FailsOnce as Write>::flush', 'the trait asks for it, and no test flushes'),
     (
         'cmd_gen::command::making::<Generating as Work>::feed',
         'the trait asks for it, the command reads nothing, and no other crate can name it',
     ),
-    ('types_resolve::occurrences::texts::*', 'over a tree of the grammar that no caller can name: docs/DECISIONS.md, The gate'),
+    ('types_resolve::occurrences::text_occurrences::*', 'over a tree of the grammar that no caller can name: docs/DECISIONS.md, The gate'),
 ]
 
 KINDS = {

@@ -3,7 +3,7 @@ use Rattle.std.proofs.Common.{◌≡◌, ℕ, ◌+◌, ◌-◌, ◌≤◌, List,
 use Rattle.std.proofs.Math.Seq.{take-add}
 use Rattle.std.proofs.lemmas.Option.{IfSome_then}
 use Rattle.base_io.specs.Sink.{AppendsPrefix, Writes}
-use Rattle.base_io.specs.State.{ByteState, change}
+use Rattle.base_io.specs.StreamState.{ByteState, change}
 
 -- The first `n` bytes of the chunk were written.
 abbrev pub HasWritten : ByteState → ByteState → List ℕ → ℕ → Type 0

@@ -3,8 +3,8 @@ use Rattle.std.proofs.Common.{ℕ, ◌≡◌, ◌+◌, ◌≤◌, ◌∙◌, tru
 use Rattle.std.specs.Prelude.{IfSome}
 use Rattle.std.proofs.lemmas.List.{take-append-le}
 use Rattle.std.proofs.Math.Seq.{take-append-add}
-use Rattle.base_io.specs.State.{ByteState, change}
-use Rattle.base_io.specs.Faults.{HasCause}
+use Rattle.base_io.specs.StreamState.{ByteState, change}
+use Rattle.base_io.specs.IoFaults.{HasCause}
 use Rattle.base_io.specs.Sink.{Writes, WritesPart, AppendsPart}
 
 appended_twice : (x y z : Option (List ℕ)) (p q : List ℕ) → IfSome x (λ b. y ≡ Some (b ++ p)) → IfSome y (λ b. z ≡ Some (b ++ q)) → IfSome x (λ b. z ≡ Some (b ++ (p ++ q)))

@@ -1,7 +1,7 @@
 -- The parts of the adapters that contracts refer to: the reader or writer inside, and the number of
 -- failed calls.
 use Rattle.std.specs.Prelude.{ℕ, None}
-use Rattle.base_io.specs.State.{ByteState}
+use Rattle.base_io.specs.StreamState.{ByteState}
 use Rattle.base_io.specs.declared.real.StdSource.{StdSource}
 use Rattle.base_io.specs.declared.real.StdSink.{StdSink}
 

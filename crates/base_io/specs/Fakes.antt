@@ -3,9 +3,9 @@ use Rattle.std.specs.Prelude.{ℕ, ◌+◌, ◌<◌, ◌≤◌, min, Bool, List,
 use Rattle.std.specs.Prelude.{slice_index_or, Contains, Option, Some, None, IfSome, String}
 use Rattle.std.specs.Prelude.{string_bytes, Vec}
 use Rattle.std.specs.declared.alloc.Global.{Global}
-use Rattle.base_io.specs.Faults.{last_count, count_after}
+use Rattle.base_io.specs.IoFaults.{last_count, count_after}
 use Rattle.base_io.specs.Files.{File}
-use Rattle.base_io.specs.State.{ByteState, FilesState}
+use Rattle.base_io.specs.StreamState.{ByteState, FilesState}
 
 -- The plan for one kind of call: the numbers of the calls that fail, the number of the next call,
 -- and the number of failed calls.

@@ -17,7 +17,7 @@ abbrev pub HasNoNameTwice : List File → Type 0
 HasNoNameTwice files = AllPairs (λ file other. file.0 ≢ other.0) files
 
 -- A file has the name, and all bytes of the file remain to be read.
-pub record Opens (files : List File) (name : List ℕ) (left : Option (List ℕ)) : Type 0 where
+pub record OpensFile (files : List File) (name : List ℕ) (left : Option (List ℕ)) : Type 0 where
   pub found : IsSome (contents_of files name)
   pub whole : left ≡ contents_of files name
 

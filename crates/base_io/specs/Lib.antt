@@ -1,8 +1,8 @@
 pub mod Adapters
 pub mod Disk
 pub mod Fakes
-pub mod Faults
+pub mod IoFaults
 pub mod Files
 pub mod Sink
 pub mod Source
-pub mod State
+pub mod StreamState

@@ -2,8 +2,8 @@
 -- then no statement is made about the bytes.
 use Rattle.std.specs.Prelude.{◌≡◌, ℕ, ◌<◌, ◌≤◌, List, ◌++◌, length, take, Option, Some, is_some}
 use Rattle.std.specs.Prelude.{is_err, Result, Ok, Err, IfOk, OnErr, IfSome, true, false}
-use Rattle.base_io.specs.Faults.{HasCause}
-use Rattle.base_io.specs.State.{ByteState, Change}
+use Rattle.base_io.specs.IoFaults.{HasCause}
+use Rattle.base_io.specs.StreamState.{ByteState, Change}
 use Rattle.base_io.specs.declared.sink.WriteError.{WriteError}
 use Rattle.base_io.specs.declared.sink.WriteError.TheVariants.{Fault, Memory}
 

@@ -1,8 +1,8 @@
 -- The effect of `take` on the remaining bytes, if the remaining bytes are known.
 use Rattle.std.specs.Prelude.{◌≡◌, ◌↔◌, ℕ, ◌<◌, ◌≤◌, List, [], length, take, drop, Option, Some}
 use Rattle.std.specs.Prelude.{is_some, is_err, Result, IfOk, OnErr, IfSome}
-use Rattle.base_io.specs.Faults.{HasCause}
-use Rattle.base_io.specs.State.{ByteState}
+use Rattle.base_io.specs.IoFaults.{HasCause}
+use Rattle.base_io.specs.StreamState.{ByteState}
 
 -- The next `n` bytes were moved to the start of the buffer. If the buffer is not empty, then `n` is
 -- 0 if and only if no bytes remain.

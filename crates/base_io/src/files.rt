@@ -3,9 +3,9 @@
 ghost use Rattle.std.specs.Prelude.{◌≡◌, [], None, is_some, IsSome, IsSomeAnd, IfSome, OnOk, OnErr};
 ghost use Rattle.std.specs.Prelude.{IsErrOf};
 ghost use Rattle.std.specs.Bool.{OnTrue, OnFalse};
-ghost use Rattle.base_io.specs.Faults.{HasCause};
+ghost use Rattle.base_io.specs.IoFaults.{HasCause};
 ghost use Rattle.base_io.specs.Source.{TakesPrefix};
-ghost use Rattle.base_io.specs.State.{FilesState, as_source};
+ghost use Rattle.base_io.specs.StreamState.{FilesState, as_source};
 
 use crate::Failed;
 use base_data::model::Memory;
@@ -49,7 +49,7 @@ impl From<AllocError> for OpenError {
 /// Access to files by name. `fetch` opens a file, and `take` reads the bytes of the file that was
 /// fetched last.
 pub trait Opener {
-    ghost use Rattle.base_io.specs.Files.{contents_of, Opens, has_failed};
+    ghost use Rattle.base_io.specs.Files.{contents_of, OpensFile, has_failed};
 
     /// The state of the files. If the files are known, the state contains the map from names to
     /// bytes and the remaining bytes of the file fetched last. The state also contains the number
@@ -69,7 +69,7 @@ pub trait Opener {
     /// bytes remain to be read.
     fn fetch(&mut self, name: &str) -> Result<(), OpenError>
         ensures opened { OnOk result
-            (IfSome (state self.old).map (λ all. Opens all name.now (state self.new).left)) }
+            (IfSome (state self.old).map (λ all. OpensFile all name.now (state self.new).left)) }
         ensures refused { OnErr result
             (IsSome (state self.old).map → (state self.new).left ≡ Some []) }
         ensures missing { IsErrOf result OpenError.Missing →

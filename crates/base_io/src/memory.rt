@@ -6,12 +6,12 @@ ghost use Rattle.std.specs.Prelude.{is_err, IsErr, IsErrOf, IsTrue, OnOk, OnErr,
 ghost use Rattle.std.specs.Prelude.{option_copied, position, bytes_eq, string_bytes};
 ghost use Rattle.std.specs.Prelude.{slice_index_or};
 ghost use Rattle.std.specs.Bool.{OnTrue, OnFalse};
-ghost use Rattle.base_io.specs.Faults.{HasCause};
+ghost use Rattle.base_io.specs.IoFaults.{HasCause};
 ghost use Rattle.base_io.specs.Source.{TakesPrefix};
 ghost use Rattle.base_io.specs.Sink.{AppendsPrefix};
 ghost use Rattle.base_io.specs.Fakes.{FailsNext, after_call, plan_of, files_of};
 ghost use Rattle.base_io.specs.Files.{HasNoNameTwice};
-ghost use Rattle.base_io.specs.State.{as_source};
+ghost use Rattle.base_io.specs.StreamState.{as_source};
 ghost use Rattle.base_data.specs.model.Bytes.{AreBytes};
 
 use crate::plan::Plan;
@@ -307,7 +307,7 @@ impl MemFiles {
 
 impl Opener for MemFiles {
     ghost use Rattle.base_io.specs.Fakes.{files_state};
-    ghost use Rattle.base_io.specs.Files.{Opens, contents_of, has_failed};
+    ghost use Rattle.base_io.specs.Files.{OpensFile, contents_of, has_failed};
 
     ghost state = { files_state };
 
@@ -337,7 +337,7 @@ impl Opener for MemFiles {
     }
 
     fn fetch(&mut self, name: &str) -> Result<(), OpenError>
-        ensures opened { OnOk result (Opens self.old.files name.now (Some self.new.left)) }
+        ensures opened { OnOk result (OpensFile self.old.files name.now (Some self.new.left)) }
         ensures refused { OnErr result (self.new.left ≡ []) }
         ensures missing { IsErrOf result OpenError.Missing
             → contents_of self.old.files name.now ≡ None }

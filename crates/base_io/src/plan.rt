@@ -1,7 +1,7 @@
 //! The plan of a fake: which calls fail.
 
 ghost use Rattle.std.specs.Prelude.{◌≡◌, ◌↔◌, IsTrue};
-ghost use Rattle.base_io.specs.Faults.{HasCause};
+ghost use Rattle.base_io.specs.IoFaults.{HasCause};
 ghost use Rattle.base_io.specs.Fakes.{FailsNext, after_call, plan_of};
 
 use std::marker::Model;

@@ -4,7 +4,7 @@
 ghost use Rattle.std.specs.Prelude.{◌≡◌, None, Some, option_copied, is_ok, is_err, IsErrOf, false};
 ghost use Rattle.std.specs.Bool.{OnTrue, OnFalse};
 ghost use Rattle.std.specs.Io.KnownBytes.{ReadConsumes, WriteAppends};
-ghost use Rattle.base_io.specs.Faults.{HasCause, count_after};
+ghost use Rattle.base_io.specs.IoFaults.{HasCause, count_after};
 ghost use Rattle.base_io.specs.Source.{TakesPrefix};
 ghost use Rattle.base_io.specs.Sink.{AppendsPrefix};
 ghost use Rattle.base_io.specs.Adapters.{inconclusive};

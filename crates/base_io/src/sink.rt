@@ -2,7 +2,7 @@
 
 ghost use Rattle.std.specs.Prelude.{◌≡◌, [], IsOk, MatchResult};
 ghost use Rattle.base_io.specs.Sink.{AppendsPrefix, Writes, WritesPart};
-ghost use Rattle.base_io.specs.State.{ByteState, change};
+ghost use Rattle.base_io.specs.StreamState.{ByteState, change};
 ghost use Rattle.base_io.specs.declared.sink.WriteError.TheVariants.{Fault, Memory as OutOfMemory};
 
 use crate::Failed;

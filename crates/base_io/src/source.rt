@@ -3,7 +3,7 @@
 ghost use Rattle.std.specs.Prelude.{IfSome};
 ghost use Rattle.base_data.specs.model.Bytes.{AreBytes};
 ghost use Rattle.base_io.specs.Source.{TakesPrefix};
-ghost use Rattle.base_io.specs.State.{ByteState};
+ghost use Rattle.base_io.specs.StreamState.{ByteState};
 
 /// A call to the environment failed. Each failed call increases the number of failed calls in the
 /// state, up to its maximum.

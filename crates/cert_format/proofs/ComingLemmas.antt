@@ -3,14 +3,14 @@ use Rattle.std.proofs.Common.{ℕ, ◌+◌, ◌≤◌, ◌≡◌, ◌∙◌, inl
 use Rattle.std.specs.Prelude.{Contains, is_some}
 use Rattle.std.proofs.lemmas.List.{append-nil}
 use Rattle.std.proofs.lemmas.List.Elements.{All-nil}
-use Rattle.cert_format.specs.declared.read.CertFault.{CertFault}
-use Rattle.cert_format.specs.declared.read.CertFault.TheVariants as faults
-use Rattle.cert_format.specs.declared.read.CertificateReading.{CertificateReading}
+use Rattle.cert_format.specs.declared.certificate_reader.CertFault.{CertFault}
+use Rattle.cert_format.specs.declared.certificate_reader.CertFault.TheVariants as faults
+use Rattle.cert_format.specs.declared.certificate_reader.CertificateReading.{CertificateReading}
 use Rattle.cert_format.specs.Format.{IsStated, text_of, IsSyntaxAt}
-use Rattle.cert_format.specs.Reading.{IsCut, lines_read, IsReading, IsAt, IsFaultOf, IsFaultFrom}
+use Rattle.cert_format.specs.CertificateReading.{IsCut, lines_read, IsReading, IsAt, IsFaultOf, IsFaultFrom}
 use Rattle.cert_format.specs.Coming.{nothing, HasKept, HasComeTo}
 use Rattle.cert_format.proofs.CutLemmas.{lacks_append}
-use Rattle.cert_format.proofs.ReadLemmas.{lines_few}
+use Rattle.cert_format.proofs.CertificateReadLemmas.{lines_few}
 use Rattle.base_data.proofs.model.Options.{Contains-none}
 
 -- The state before the first byte.

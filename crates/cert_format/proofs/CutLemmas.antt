@@ -6,7 +6,7 @@ use Rattle.std.proofs.lemmas.Bool.Decides.{Decides-eqb}
 use Rattle.std.proofs.lemmas.List.Elements.{Contains-append_cases}
 use Rattle.std.proofs.lemmas.List.{take-append-drop, length-take-le, get_or_default, get_or-take, drop_more, drop_all, take_rest}
 use Rattle.base_data.proofs.model.Options.{Contains-first, Contains-later, Contains-none, Contains-cases, same_or_not}
-use Rattle.cert_format.specs.Reading.{BeginsAt, IsCut}
+use Rattle.cert_format.specs.CertificateReading.{BeginsAt, IsCut}
 
 -- ---- bytes that do not occur
 

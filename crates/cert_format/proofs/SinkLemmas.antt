@@ -5,17 +5,17 @@ use Rattle.std.proofs.lemmas.List.{take-append-drop, take_more, map-append}
 use Rattle.std.proofs.lemmas.Option.{slice_get_within, get_or_from_slice_get}
 use Rattle.std.proofs.lemmas.Result.{MatchResult-from_err}
 use Rattle.std.proofs.lemmas.List.Concat.{flat_map-append}
-use Rattle.base_io.specs.State.{ByteState, change}
+use Rattle.base_io.specs.StreamState.{ByteState, change}
 use Rattle.base_io.specs.Sink.{Writes, WritesPart}
 use Rattle.base_io.proofs.WritesLemmas.{writes_writes, writes_part, part_more}
 use Rattle.cert_format.specs.Format.{pair_line, text_of, head_line, pair_lines, section_text}
 use Rattle.cert_format.specs.declared.section.Section.{Section}
-use Rattle.cert_format.specs.TextWrites.{Leaves, WritesPrefix, WritesAll}
+use Rattle.cert_format.specs.TextWrites.{LeavesText, WritesPrefix, WritesAll}
 
 -- ---- the contents of the buffer
 
-module _ (a b c : ByteState) (text rest : List ℕ) (left : Leaves (change a b) text rest) where
-  pub leaves_then : (last : List ℕ) → Leaves (change b c) rest last → Leaves (change a c) text last
+module _ (a b c : ByteState) (text rest : List ℕ) (left : LeavesText (change a b) text rest) where
+  pub leaves_then : (last : List ℕ) → LeavesText (change b c) rest last → LeavesText (change a c) text last
   leaves_then last then = record {
     prefix = left.prefix ++ then.prefix;
     whole = left.whole ∙ (ap (λ (r : List ℕ). left.prefix ++ r) then.whole ∙ sym (append_assoc left.prefix then.prefix last));
@@ -30,8 +30,8 @@ module _ (a b c : ByteState) (text rest : List ℕ) (left : Leaves (change a b) 
   writes_then write =
       subst (λ (t : List ℕ). Writes (change a c) t) (sym left.whole) (writes_writes a b c left.prefix rest left.write write)
 
-pub leaves_more : (a b : ByteState) (text rest more longer : List ℕ) → Leaves (change a b) text rest → longer ≡ rest ++ more
-    → Leaves (change a b) (text ++ more) longer
+pub leaves_more : (a b : ByteState) (text rest more longer : List ℕ) → LeavesText (change a b) text rest → longer ≡ rest ++ more
+    → LeavesText (change a b) (text ++ more) longer
 leaves_more a b text rest more longer left is = record {
   prefix = left.prefix;
   whole = ap (λ (t : List ℕ). t ++ more) left.whole
@@ -43,14 +43,14 @@ leaves_more a b text rest more longer left is = record {
 pub prefix_fails : {A E : Type 0} (a b : ByteState) (text rest : List ℕ) (result : Result A E) → IsErr result → WritesPart (change a b) text
     → WritesPrefix (change a b) text rest result
 prefix_fails a b text rest result is part =
-    MatchResult-from_err result (λ _. Leaves (change a b) text rest) (λ _. WritesPart (change a b) text) is (λ _. part)
+    MatchResult-from_err result (λ _. LeavesText (change a b) text rest) (λ _. WritesPart (change a b) text) is (λ _. part)
 
 pub all_fails : {A E : Type 0} (a b : ByteState) (text : List ℕ) (result : Result A E) → IsErr result → WritesPart (change a b) text
     → WritesAll (change a b) text result
 all_fails a b text result is part = MatchResult-from_err result (λ _. Writes (change a b) text) (λ _. WritesPart (change a b) text) is (λ _. part)
 
 -- If a prefix is written, and then the remaining text is written, then the whole text is written.
-pub all_then : {A E : Type 0} (a b c : ByteState) (text rest : List ℕ) (result : Result A E) → Leaves (change a b) text rest
+pub all_then : {A E : Type 0} (a b c : ByteState) (text rest : List ℕ) (result : Result A E) → LeavesText (change a b) text rest
     → WritesAll (change b c) rest result → WritesAll (change a c) text result
 all_then a b c text rest (Ok done) left all = writes_then a b c text rest left all
 all_then a b c text rest (Err failed) left all = part_then a b c text rest left all

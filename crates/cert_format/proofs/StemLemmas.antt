@@ -5,8 +5,8 @@ use Rattle.std.proofs.lemmas.Bool.{cases_lt}
 use Rattle.std.proofs.lemmas.Fmt.{decimal_digit, decimal_step}
 use Rattle.std.proofs.lemmas.List.{length-take-le, get_or-take, get_or_default, take-append-drop, take_rest, take_at, drop_more, same_lists}
 use Rattle.std.proofs.lemmas.Nat.{le_bytes_8}
-use Rattle.cert_format.specs.Numbers.{IsNumber}
-use Rattle.cert_format.specs.Runs.{eight_from, word_of, IsPairEnd, IsFirstPair, IsStem}
+use Rattle.cert_format.specs.CertificateNumbers.{IsNumber}
+use Rattle.cert_format.specs.PairRuns.{eight_from, word_of, IsPairEnd, IsFirstPair, IsStem}
 
 -- ---- 64-bit words
 

@@ -1,9 +1,9 @@
 -- The state of a parser that receives a certificate in chunks.
 use Rattle.std.specs.Prelude.{ℕ, ◌≡◌, List, [], ◌++◌, length, Option, Some, None}
-use Rattle.cert_format.specs.declared.read.CertificateReading.{CertificateReading}
-use Rattle.cert_format.specs.declared.read.CertReader.{CertReader}
+use Rattle.cert_format.specs.declared.certificate_reader.CertificateReading.{CertificateReading}
+use Rattle.cert_format.specs.declared.certificate_reader.CertReader.{CertReader}
 use Rattle.cert_format.specs.Format.{text_of, IsSyntaxAt}
-use Rattle.cert_format.specs.Reading.{lines_read, IsReading, IsAt}
+use Rattle.cert_format.specs.CertificateReading.{lines_read, IsReading, IsAt}
 
 abbrev pub Bytes : Type 0
 Bytes = List ℕ

@@ -6,7 +6,7 @@ use Rattle.base_data.specs.model.PathText.{path_text}
 use Rattle.cert_format.specs.declared.section.Section.{Section}
 use Rattle.cert_format.specs.declared.section.Section.TheVariants as sections
 use Rattle.cert_format.specs.Increasing.{AreIncreasing}
-use Rattle.cert_format.specs.Numbers.{IsNumber}
+use Rattle.cert_format.specs.CertificateNumbers.{IsNumber}
 
 -- ---- entries
 

@@ -1,8 +1,8 @@
 pub mod Increasing
-pub mod Numbers
+pub mod CertificateNumbers
 pub mod Format
-pub mod Reading
+pub mod CertificateReading
 pub mod Laws
-pub mod Runs
+pub mod PairRuns
 pub mod TextWrites
 pub mod Coming

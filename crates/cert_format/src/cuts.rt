@@ -2,7 +2,7 @@
 
 ghost use Rattle.std.specs.Prelude.{ℕ, ◌≡◌, ◌≢◌, ◌<◌, ◌≤◌, ◌++◌, List, MatchOption, length};
 ghost use Rattle.std.specs.Prelude.{slice_index};
-ghost use Rattle.cert_format.specs.Reading.{IsCut};
+ghost use Rattle.cert_format.specs.CertificateReading.{IsCut};
 
 /// Splits the bytes before the first occurrence of `at`. If `at` does not occur, the second part is
 /// empty.

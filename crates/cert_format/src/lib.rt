@@ -23,20 +23,20 @@
 //! (`cert_produce`), and the commands (`cmd_verify`, `cmd_certify`).
 #![tactic(auto)]
 
+mod certificate_lines;
+mod certificate_number;
+mod certificate_reader;
 mod cuts;
-mod heads;
+mod entry_head;
+mod entry_writer;
 mod laws;
-mod lines;
-mod number;
-mod read;
-mod runs;
+mod pair_lines;
+mod pair_runs;
 mod section;
-mod sink;
 mod stems;
-mod write;
 
+pub use certificate_number::number_of;
+pub use certificate_reader::{Cert, CertFault, CertReader, read_cert};
+pub use entry_writer::write_cert;
 pub use laws::{texts_are_one, written_sections_are_certificates};
-pub use number::number_of;
-pub use read::{Cert, CertFault, CertReader, read_cert};
 pub use section::{CertificatePairs, Section};
-pub use sink::write_cert;

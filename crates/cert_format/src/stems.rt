@@ -3,11 +3,11 @@
 
 ghost use Rattle.std.specs.Prelude.{◌≡◌, ◌+◌, ◌≤◌, ◌++◌, length, take, IfSome, codes, decimal};
 ghost use Rattle.std.specs.Bool.{OnTrue};
-ghost use Rattle.cert_format.specs.Numbers.{IsNumber};
-ghost use Rattle.cert_format.specs.Runs.{word_of, IsPairEnd, IsFirstPair, IsStem};
+ghost use Rattle.cert_format.specs.CertificateNumbers.{IsNumber};
+ghost use Rattle.cert_format.specs.PairRuns.{word_of, IsPairEnd, IsFirstPair, IsStem};
 
+use crate::certificate_number::first_number;
 use crate::cuts::after;
-use crate::number::first_number;
 
 /// Returns the eight bytes from position `position` as a 64-bit word.
 #[inline(always)]

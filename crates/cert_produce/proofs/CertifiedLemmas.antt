@@ -9,12 +9,12 @@ use Rattle.base_data.specs.declared.model.value.Obj.{Obj}
 use Rattle.types_spec.specs.declared.types.fault.Fault.{Fault}
 use Rattle.types_spec.specs.declared.types.fault.Fault.TheVariants as faults
 use Rattle.types_spec.specs.types.Fault.{value_at}
-use Rattle.types_spec.specs.types.Lawful.{AreLawful, Everything}
+use Rattle.types_spec.specs.types.LawfulShapes.{AreLawful, Everything}
 use Rattle.types_spec.specs.types.LeastFault.{IsLeastFault}
 use Rattle.types_spec.specs.types.Table.{Table, table_shapes}
 use Rattle.types_spec.specs.types.Typing.{IsListed, HasType}
-use Rattle.types_spec.proofs.types.FaultLemmas.{fault_excludes_type}
-use Rattle.types_theory.proofs.typing.OnceLemmas.{least_once}
+use Rattle.types_spec.proofs.types.TypeFaultLemmas.{fault_excludes_type}
+use Rattle.types_theory.proofs.typing.TypingOnceLemmas.{least_once}
 use Rattle.types_table.specs.type_table.Made.{IsLawful}
 use Rattle.check_heap.specs.scan.Paths.{HasPath}
 use Rattle.check_heap.specs.check.Verdict.{IsYes}
@@ -22,14 +22,14 @@ use Rattle.cert_format.specs.declared.section.Section.{Section}
 use Rattle.cert_format.specs.declared.section.Section.TheVariants as sections
 use Rattle.cert_format.specs.Increasing.{AreIncreasing}
 use Rattle.cert_verify.specs.declared.certificate.verified.Verified.{Verified}
-use Rattle.cert_verify.specs.certificate.Accepted.{AreAccepted, IsAccepted}
+use Rattle.cert_verify.specs.certificate.AcceptedEntry.{AreAccepted, IsAccepted}
 use Rattle.cert_verify.specs.certificate.Normal.{AreReached}
 use Rattle.cert_verify.specs.certificate.Verified.{IsVerified, fault_section, shown_by}
-use Rattle.cert_verify.proofs.certificate.AcceptedLemmas.{accepted_hold_paths}
-use Rattle.cert_verify.proofs.certificate.ReachedLemmas.{reached_pairs, reached_are_one}
+use Rattle.cert_verify.proofs.certificate.EntryAcceptedLemmas.{accepted_hold_paths}
+use Rattle.cert_verify.proofs.certificate.EntryReachedLemmas.{reached_pairs, reached_are_one}
 use Rattle.cert_verify.proofs.certificate.VerifiedLemmas.{never_both, table_has}
 use Rattle.cert_produce.specs.LeastFaults.{IsLeastOf, AreLeastFaults, at_least}
-use Rattle.cert_produce.specs.Certified.{IsCertified}
+use Rattle.cert_produce.specs.CertifiedVerdict.{IsCertified}
 
 -- ---- the pairs of a `Yes`
 

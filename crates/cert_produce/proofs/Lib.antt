@@ -1,3 +1,3 @@
-pub mod LeastLemmas
-pub mod OrderLemmas
+pub mod ProducedLeastLemmas
+pub mod ProducedOrderLemmas
 pub mod CertifiedLemmas

@@ -2,13 +2,13 @@
 use Rattle.std.specs.Prelude.{◌≡◌, List}
 use Rattle.base_data.specs.declared.model.value.Val.{Val}
 use Rattle.base_data.specs.declared.model.value.Obj.{Obj}
-use Rattle.types_spec.specs.types.Lawful.{AreLawful, Everything}
+use Rattle.types_spec.specs.types.LawfulShapes.{AreLawful, Everything}
 use Rattle.types_spec.specs.types.Table.{Table, table_shapes}
 use Rattle.cert_format.specs.declared.section.Section.{Section}
 use Rattle.cert_verify.specs.declared.certificate.verified.Verified.{Verified}
-use Rattle.cert_verify.specs.certificate.Accepted.{IsAccepted}
+use Rattle.cert_verify.specs.certificate.AcceptedEntry.{IsAccepted}
 use Rattle.cert_verify.specs.certificate.Verified.{IsVerified, shown_by}
-use Rattle.cert_produce.specs.Certified.{IsCertified}
+use Rattle.cert_produce.specs.CertifiedVerdict.{IsCertified}
 
 -- If an entry certifies a value, then the entry is accepted for the value.
 abbrev pub CertifiedAreAccepted : Type 0

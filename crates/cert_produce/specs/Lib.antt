@@ -1,3 +1,3 @@
 pub mod LeastFaults
-pub mod Certified
+pub mod CertifiedVerdict
 pub mod Laws

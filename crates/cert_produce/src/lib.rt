@@ -24,8 +24,8 @@
 mod laws;
 mod least_faults;
 mod normal;
-mod section;
+mod verdict_section;
 
 pub use laws::{certified_sections_are_accepted, certified_sections_are_one};
 pub use least_faults::LeastFaults;
-pub use section::{section_of, section_with};
+pub use verdict_section::{section_of, section_with};

@@ -1,8 +1,8 @@
-pub mod AcceptedLemmas
+pub mod EntryAcceptedLemmas
 pub mod NormalLemmas
 pub mod VerifiedLemmas
-pub mod TestLemmas
-pub mod JudgeLemmas
-pub mod ReachedLemmas
-pub mod HeldLemmas
+pub mod EntryTestLemmas
+pub mod EntryJudgeLemmas
+pub mod EntryReachedLemmas
+pub mod EntryHeldLemmas
 pub mod RightLemmas

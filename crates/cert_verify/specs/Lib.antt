@@ -1,2 +1,2 @@
 pub mod certificate
-pub mod agreement
+pub mod table_independence

@@ -1,4 +1,4 @@
-pub mod Accepted
+pub mod AcceptedEntry
 pub mod Normal
 pub mod Verified
 pub mod Testing

@@ -4,15 +4,15 @@
 //! accepted entries are right and that each entry has one answer. The law
 //! `reached_pairs_are_accepted` states that the pairs written for a value of the type are accepted.
 
+mod entry_verdict;
 mod held;
-mod judge;
 mod laws;
 mod right;
 mod stated_pairs;
 mod test;
 mod verified;
 
-pub use judge::verify;
+pub use entry_verdict::verify;
 pub use laws::{
     accepted_sections_are_right, answers_are_one, reached_pairs_are_accepted,
     the_same_pairs_are_accepted,

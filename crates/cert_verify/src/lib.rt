@@ -3,7 +3,8 @@
 //!
 //! - `certificate`: The verifier (`verify`): each pair is tested by itself, and each path is
 //!   followed. The module owns the result (`Verified`) and the reasons for a rejection (`Why`).
-//! - `agreement`: Theorems that the result does not depend on which table of the type is used.
+//! - `table_independence`: Theorems that the result does not depend on which table of the type is
+//!   used.
 //!
 //! Of the checker (`check_heap`) the crate uses `fits` and lemmas, but not the scan or the search.
 //!
@@ -22,5 +23,5 @@
 //! command (`cmd_verify`). An accepted fault need not be the least fault.
 #![tactic(auto)]
 
-pub mod agreement;
 pub mod certificate;
+pub mod table_independence;

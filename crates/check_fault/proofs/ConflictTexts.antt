@@ -10,7 +10,7 @@ use Rattle.types_spec.specs.types.Table.{table_shapes}
 use Rattle.types_spec.specs.types.VerdictText.{conflict_text}
 use Rattle.types_table.specs.declared.type_table.tabled.Tabled.{Tabled}
 use Rattle.types_table.specs.type_table.Made.{table_of}
-use Rattle.check_fault.specs.Text.{text_at, WritesFault}
+use Rattle.check_fault.specs.FaultText.{text_at, WritesFault}
 
 -- If one more chunk is appended, then the appended text is the prefix followed by the chunk.
 pub more : (old prefix chunk x y : List ℕ) → x ≡ old ++ prefix → y ≡ x ++ chunk → y ≡ old ++ (prefix ++ chunk)

@@ -6,7 +6,7 @@ use Rattle.base_data.specs.declared.model.value.Obj.{Obj}
 use Rattle.base_data.specs.declared.model.value.Obj.TheVariants as objects
 use Rattle.types_spec.specs.types.VerdictText as texts
 use Rattle.marshal_heap.specs.heap.Heap.{object_at, kind_of}
-use Rattle.check_fault.specs.Text.{text_of_kind}
+use Rattle.check_fault.specs.FaultText.{text_of_kind}
 
 kind_reports : (object : Obj) → texts.object_text (Some object) ≡ text_of_kind (kind_of object)
 kind_reports (objects.Block tag values) = refl

@@ -1,8 +1,8 @@
 pub mod ConflictTexts
 pub mod KindTexts
-pub mod OrderLemmas
+pub mod FaultOrderLemmas
 pub mod TypeTexts
-pub mod StepLemmas
+pub mod FaultStepLemmas
 pub mod NearLemmas
 pub mod NamedTexts
 pub mod MismatchTexts

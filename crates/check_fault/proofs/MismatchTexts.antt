@@ -11,7 +11,7 @@ use Rattle.types_spec.specs.types.Table.{table_shapes}
 use Rattle.types_spec.specs.types.VerdictText.{kind_text, mismatch_text}
 use Rattle.types_table.specs.declared.type_table.tabled.Tabled.{Tabled}
 use Rattle.types_table.specs.type_table.Made.{table_of}
-use Rattle.check_fault.specs.Text.{step_text, text_at, found_text, WritesFault}
+use Rattle.check_fault.specs.FaultText.{step_text, text_at, found_text, WritesFault}
 use Rattle.check_fault.proofs.ConflictTexts.{more}
 
 -- The texts of one step and of two steps are the texts of paths.

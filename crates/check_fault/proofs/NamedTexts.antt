@@ -3,10 +3,10 @@ use Rattle.std.proofs.Common.{ℕ, ◌≡◌, ◌∙◌, List, Some, refl, ap}
 use Rattle.std.specs.Prelude.{slice_get, option_map}
 use Rattle.std.proofs.lemmas.Option.{slice_get-map, get_or_from_slice_get}
 use Rattle.types_spec.specs.types.Ty.{named, tuple}
-use Rattle.types_spec.specs.types.Nodes.{type_at}
+use Rattle.types_spec.specs.types.TypeNodes.{type_at}
 use Rattle.types_spec.specs.types.TypeText.{type_text}
 use Rattle.types_table.specs.declared.type_table.tabled.Tabled.{Tabled}
-use Rattle.check_fault.specs.Text.{text_or_none, text_at}
+use Rattle.check_fault.specs.FaultText.{text_or_none, text_at}
 
 name_is : (name : List ℕ) → type_text (named name) ≡ name
 unfolding type_text

@@ -25,7 +25,7 @@ use Rattle.types_table.specs.type_table.Made.{IsLawful}
 use Rattle.check_fault.specs.declared.near.UnfitField.{UnfitField}
 use Rattle.check_fault.specs.declared.near.NearPath.TheVariants as ways
 use Rattle.check_fault.specs.Near.{NoneOf, IsFirstOf, IsThere, IsNear, fields_of_kind}
-use Rattle.check_fault.proofs.StepLemmas.{needed_below}
+use Rattle.check_fault.proofs.FaultStepLemmas.{needed_below}
 
 module _ (Is : List ℕ → Type 0) where
   abbrev pub NoneBelow : ℕ → ℕ → Type 0

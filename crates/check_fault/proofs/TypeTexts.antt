@@ -15,11 +15,11 @@ use Rattle.types_spec.specs.types.Ty.{Ty}
 use Rattle.types_spec.specs.types.TypeText.{type_text}
 use Rattle.types_spec.specs.types.VerdictText.{kind_text, IsFaultText}
 use Rattle.types_theory.proofs.equality.SimulationLemmas.{SamePosition, position_same}
-use Rattle.types_theory.proofs.equality.TableLemmas.{table_says}
-use Rattle.types_theory.proofs.table.DecideLemmas.{root_is_first}
+use Rattle.types_theory.proofs.equality.EqualityTableLemmas.{table_says}
+use Rattle.types_theory.proofs.table.TableDecideLemmas.{root_is_first}
 use Rattle.types_table.specs.declared.type_table.tabled.Tabled.{Tabled}
 use Rattle.types_table.specs.type_table.Made.{types_of, table_of, IsTypeTable}
-use Rattle.check_fault.specs.Text.{text_or_none, text_at}
+use Rattle.check_fault.specs.FaultText.{text_or_none, text_at}
 
 module _ (decls : List Decl) (t : Ty) (table : Tabled) (is : IsTypeTable decls t table)
     (graph : List Obj) where

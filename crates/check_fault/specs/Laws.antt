@@ -11,7 +11,7 @@ use Rattle.types_spec.specs.types.TypeText.{type_text}
 use Rattle.types_spec.specs.types.VerdictText.{IsFaultText}
 use Rattle.types_table.specs.declared.type_table.tabled.Tabled.{Tabled}
 use Rattle.types_table.specs.type_table.Made.{table_of, IsTypeTable}
-use Rattle.check_fault.specs.Text.{text_at}
+use Rattle.check_fault.specs.FaultText.{text_at}
 
 abbrev pub TextsAreOfTypes : Type 0
 TextsAreOfTypes =

@@ -1,5 +1,5 @@
 pub mod Laws
-pub mod Text
+pub mod FaultText
 pub mod Shared
 pub mod Near
 pub mod Tried

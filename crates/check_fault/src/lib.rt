@@ -19,20 +19,20 @@
 //! decide whether a fault is the least.
 #![tactic(auto)]
 
-mod fault;
+mod candidate_fault;
+mod fault_printer;
 pub mod laws;
 mod missed;
 mod near;
-mod order;
-mod steps;
-mod text;
+mod path_order;
+mod path_steps;
 mod tried;
-mod write;
+mod value_description;
 
-pub use fault::is_fault;
+pub use candidate_fault::is_fault;
+pub use fault_printer::{fault_text, write_fault, write_near};
 pub use missed::write_missed;
 pub use near::{Near, NearPath, find_near};
-pub use steps::{step, walk};
-pub use text::{fault_text, write_fault, write_near};
+pub use path_steps::{step, walk};
 pub use tried::Tried;
-pub use write::write_object;
+pub use value_description::write_object;

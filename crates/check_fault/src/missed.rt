@@ -2,16 +2,16 @@
 
 ghost use Rattle.std.specs.Prelude.{◌≡◌, ◌<◌, ◌++◌, length, map, OnOk};
 ghost use Rattle.base_data.specs.model.PathText.{path_text};
-ghost use Rattle.check_stream.specs.search.Judge.{summary_text};
-ghost use Rattle.check_stream.specs.search.Line.{found_text};
-ghost use Rattle.check_fault.specs.Text.{text_at};
+ghost use Rattle.check_stream.specs.mismatch_search.Judge.{summary_text};
+ghost use Rattle.check_stream.specs.mismatch_search.MismatchLine.{found_text};
+ghost use Rattle.check_fault.specs.FaultText.{text_at};
 
-use crate::text::write_type;
-use crate::write::{write_atom, write_int, write_object};
+use crate::fault_printer::write_type;
+use crate::value_description::{write_atom, write_int, write_object};
 use base_data::model::Memory;
 use base_data::model::code::CustomKind;
 use base_data::text::{write, write_step};
-use check_stream::search::{FoundMismatch, Link};
+use check_stream::mismatch_search::{FoundMismatch, Link};
 use marshal_codec::token::Summary;
 use marshal_heap::heap::Kind;
 use std::alloc::Global;

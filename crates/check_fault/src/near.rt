@@ -10,8 +10,8 @@ ghost use Rattle.types_table.specs.type_table.Made.{table_of};
 ghost use Rattle.check_fault.specs.Near.{NoneOf, IsFirstOf, IsNear, fields_of_kind};
 ghost use Rattle.check_fault.specs.Tried.{typed_in, needed_in, step_from, IsMismatchOf, LeadsTo};
 
-use crate::fault::fits;
-use crate::steps::field;
+use crate::candidate_fault::fits;
+use crate::path_steps::field;
 use crate::tried::Tried;
 use base_data::model::value::Val;
 use check_heap::fits::{Needs, is_asked, needs_of};

@@ -1,2 +1,2 @@
-pub mod NeedLemmas
-pub mod RowLemmas
+pub mod FitsNeedLemmas
+pub mod FitsRowLemmas

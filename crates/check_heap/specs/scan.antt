@@ -1,7 +1,7 @@
-pub mod Row
-pub mod Fitting
+pub mod NumberCells
+pub mod TypeRows
 pub mod FittingRows
-pub mod Taken
+pub mod TakenObjects
 pub mod Classed
 pub mod Seconds
 pub mod Paths

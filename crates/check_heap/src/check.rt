@@ -7,23 +7,23 @@
 mod asked;
 mod conflict;
 mod decide;
-mod flat;
+mod flat_values;
 mod laws;
 mod meetings;
-mod path;
 mod rest;
 mod search;
 mod settle;
 mod settled_objects;
 mod trail;
-mod typing;
+mod typed_objects;
 mod verdict;
+mod visit_path;
 mod visits;
 
 pub use crate::scan::Steps;
 pub use decide::{check, check_mismatched};
-pub use flat::surely_has;
+pub use flat_values::surely_has;
 pub use laws::items_take_61_steps;
 pub use meetings::{AllMet, met};
-pub use typing::Typing;
+pub use typed_objects::Typing;
 pub use verdict::Verdict;

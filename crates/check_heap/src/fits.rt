@@ -3,10 +3,10 @@
 //! `needs_of` promises the result of the specification `fields_of`. `WordConditions` is a fast path
 //! that decides the common cases by comparing 64-bit words.
 
+mod kind_fits;
 mod needs;
-mod parts;
 mod word_conditions;
 
+pub use kind_fits::{is_asked, is_mutable};
 pub use needs::{Needs, known_needs, needs_of};
-pub use parts::{is_asked, is_mutable};
 pub use word_conditions::{WordConditions, row_of, surely_fits};

@@ -4,24 +4,24 @@
 //! cannot decide, `scan` returns the objects checked so far (`AreTaken`). The search that continues
 //! after an inconclusive scan is not part of this crate.
 
-mod cells;
 mod classed;
 mod fitting;
-mod listed;
+mod listed_objects;
 mod notes;
-mod passed;
-mod rows;
+mod number_cells;
 mod scan_pairs;
 mod second_types;
-mod steps;
+mod skipped_type;
+mod step_counter;
 mod straight;
 mod taken_objects;
+mod type_rows;
 
-pub use cells::Cells;
 pub use classed::Classed;
 pub use fitting::fits_type;
-pub use rows::{Fitting, rows_of};
+pub use number_cells::Cells;
 pub use second_types::SecondTypes;
-pub use steps::Steps;
+pub use step_counter::Steps;
 pub use straight::{Noted, Scanned, scan};
 pub use taken_objects::{ScanMismatch, TakenObjects};
+pub use type_rows::{Fitting, rows_of};

@@ -1,7 +1,7 @@
-pub mod PositionLemmas
+pub mod CheckerPositionLemmas
 pub mod AgainLemmas
 pub mod Weaker
-pub mod ChunkLemmas
+pub mod CheckerChunkLemmas
 pub mod StateLemmas
-pub mod RunLemmas
-pub mod TakeLemmas
+pub mod CheckerRunLemmas
+pub mod CheckerTakeLemmas

@@ -2,9 +2,9 @@ pub mod Kernel
 pub mod BlockLemmas
 pub mod PassLemmas
 pub mod OnePassLemmas
-pub mod EndLemmas
-pub mod FlatLemmas
+pub mod OnePassEndLemmas
+pub mod OnePassFlatLemmas
 pub mod GrowLemmas
 pub mod LawLemmas
-pub mod WeakerLemmas
-pub mod NotedLemmas
+pub mod OnePassWeakerLemmas
+pub mod OnePassNotedLemmas

@@ -1,2 +1,2 @@
 pub mod TruncatedLemmas
-pub mod PrefixLemmas
+pub mod TruncatedPrefixLemmas

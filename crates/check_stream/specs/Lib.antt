@@ -2,5 +2,5 @@ pub mod theory
 pub mod mismatch_theory
 pub mod checker
 pub mod truncated
-pub mod search
-pub mod chunks
+pub mod mismatch_search
+pub mod chunk_check

@@ -1,4 +1,4 @@
 pub mod Again
 pub mod Fast
-pub mod Positions
-pub mod State
+pub mod OpenPositions
+pub mod CheckerState

@@ -1,4 +1,4 @@
-pub mod Asked
+pub mod AskedNeeds
 pub mod Noted
 pub mod OnePass
 pub mod Laws

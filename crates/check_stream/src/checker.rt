@@ -2,23 +2,23 @@
 //! result is `PassStop::Typed`, the value has the type (`IsTypedPrefix`). If the result is
 //! `PassStop::Inconclusive`, nothing is known about the value, and another checker must decide.
 
-mod again;
 mod back;
 mod check_state;
+mod checker_step;
 mod fast;
-pub mod first;
-pub mod fits;
-pub mod flat;
-mod listed;
+pub mod flat_blocks;
+pub mod leading_token;
+mod listed_tokens;
 mod open_positions;
 mod passing;
-mod step;
+mod reread;
+mod stated_words;
+pub mod token_fits;
 pub mod whole;
-mod words;
 
 pub use back::mark;
 pub use check_state::CheckState;
 pub use open_positions::{BlockPositions, OpenPositions, values_of};
 pub use passing::{Passing, pass};
+pub use stated_words::Words;
 pub use whole::PassStop;
-pub use words::Words;

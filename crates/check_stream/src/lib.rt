@@ -6,9 +6,9 @@
 //! - `checker`: The streaming checker (`Passing`, and `pass` for bytes that are all present).
 //! - `truncated`: The end of a chunk inside a token (`truncated_len`), and the theorem that the
 //!   bytes before the end are a prefix of a value.
-//! - `search`: The search for the one mismatch (`Seeking`). The result `Found` has the links that
-//!   lead to the mismatch, the expected type, and a summary of the mismatched token.
-//! - `chunks`: The streaming check of a value whose bytes arrive in chunks (`StreamCheck`).
+//! - `mismatch_search`: The search for the one mismatch (`Seeking`). The result `Found` has the
+//!   links that lead to the mismatch, the expected type, and a summary of the mismatched token.
+//! - `chunk_check`: The streaming check of a value whose bytes arrive in chunks (`StreamCheck`).
 //!
 //! The checker keeps the open fields, the types of the objects so far, and the words that the
 //! header still allows. If a token is truncated, the checker continues when more bytes are present.
@@ -32,8 +32,8 @@
 #![tactic(auto)]
 
 pub mod checker;
-pub mod chunks;
+pub mod chunk_check;
+pub mod mismatch_search;
 pub mod mismatch_theory;
-pub mod search;
 pub mod theory;
 pub mod truncated;

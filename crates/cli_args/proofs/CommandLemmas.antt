@@ -9,7 +9,7 @@ use Rattle.clap.specs.declared.builder.command.Command.{Command}
 use Rattle.clap.specs.Simple.{Shape, new_shape}
 use Rattle.cli_spec.specs.CommandLine.{rule_for}
 use Rattle.cli_args.specs.declared.command_set.Argument.{Argument}
-use Rattle.cli_args.specs.Commands.{AddsMade, Form, Reports, app_with, argument_of, program, program_with}
+use Rattle.cli_args.specs.CommandSet.{AddsMade, Form, Reports, app_with, argument_of, program, program_with}
 
 pub argument_added : (old new : Command) (arg : Arg) (app : App) (rule : Rule) → Reports old app → rule_of arg ≡ rule → arg.global ≡ false → AddsArg old arg new
     → Reports new (with_rule app rule)

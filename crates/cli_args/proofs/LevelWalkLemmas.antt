@@ -12,9 +12,9 @@ use Rattle.clap.specs.Kinds.{or_else}
 use Rattle.clap.specs.declared.builder.range.ValueRange.{ValueRange}
 use Rattle.clap.specs.declared.error.kind.ErrorKind.TheVariants as kind
 use Rattle.cli_spec.specs.CommandLine.{Argument, flag, option, optional, wanted, number}
-use Rattle.cli_args.proofs.LevelLemmas.{AreRead, default_has, default_keeps, default_read, no_kinds, use_read}
-use Rattle.cli_args.proofs.SetLemmas.{leaf}
-use Rattle.cli_args.proofs.TableLemmas.{AreFound, IsFound, IsOwn, TakesOne, IsFlag, both, is_lawful, are_lawful, is_named, name_of, next_position, ruled, rules_from, usual_accepted}
+use Rattle.cli_args.proofs.ArgumentsLevelLemmas.{AreRead, default_has, default_keeps, default_read, no_kinds, use_read}
+use Rattle.cli_args.proofs.ArgumentsSetLemmas.{leaf}
+use Rattle.cli_args.proofs.ArgumentsTableLemmas.{AreFound, IsFound, IsOwn, TakesOne, IsFlag, both, is_lawful, are_lawful, is_named, name_of, next_position, ruled, rules_from, usual_accepted}
 use Rattle.cli_args.proofs.TopLemmas.{both_none}
 
 -- The argument is no subcommand.

@@ -1,11 +1,11 @@
-mod AcceptedLemmas
+mod ArgumentsAcceptedLemmas
 pub mod CommandLemmas
-mod LevelLemmas
+mod ArgumentsLevelLemmas
 mod LevelWalkLemmas
-mod PlainLemmas
+mod ArgumentsPlainLemmas
 mod PlainWalkLemmas
-mod ReadLemmas
+mod ArgumentsReadLemmas
 pub mod RequestLemmas
-mod SetLemmas
-mod TableLemmas
+mod ArgumentsSetLemmas
+mod ArgumentsTableLemmas
 mod TopLemmas

@@ -17,9 +17,9 @@ use Rattle.clap.specs.declared.builder.value_parser.Reading.TheVariants.{AsWritt
 use Rattle.clap.specs.declared.parser.matches.ValueSource.TheVariants.{CommandLine}
 use Rattle.clap.proofs.ValueTestLemmas.{Accepts-accepts}
 use Rattle.cli_spec.specs.CommandLine.{flag, wanted, number, Use, alone, given, IsArgument}
-use Rattle.cli_args.proofs.LevelLemmas.{set_adds}
-use Rattle.cli_args.proofs.SetLemmas.{leaf}
-use Rattle.cli_args.proofs.TableLemmas.{next_position, no_dashes, ruled, same_text, encoded, encodes, taking}
+use Rattle.cli_args.proofs.ArgumentsLevelLemmas.{set_adds}
+use Rattle.cli_args.proofs.ArgumentsSetLemmas.{leaf}
+use Rattle.cli_args.proofs.ArgumentsTableLemmas.{next_position, no_dashes, ruled, same_text, encoded, encodes, taking}
 
 -- ---- clap's view of an argument
 

@@ -9,8 +9,8 @@ use Rattle.clap.specs.declared.builder.value_parser.ValueParser.TheVariants.{Uns
 use Rattle.clap.proofs.ValueTestLemmas.{Accepts-accepts}
 use Rattle.cli_spec.specs.CommandLine.{Accepted, Argument, flag, option, optional, wanted, number, Asking, Form, HasArguments, HasFlag, HasNumber, HasWord, MayHaveNumber, Request, AreReadAs, AsksBy, Asks, command_set, is_whole}
 use Rattle.cli_args.specs.Requests.{asked, asked_by, flag_in, given_in, number_in, number_of, word_in}
-use Rattle.cli_args.proofs.SetLemmas.{form_fits}
-use Rattle.cli_args.proofs.TableLemmas.{are_lawful, both, is_lawful, lawful_rest, small_number, small_option, small_optional}
+use Rattle.cli_args.proofs.ArgumentsSetLemmas.{form_fits}
+use Rattle.cli_args.proofs.ArgumentsTableLemmas.{are_lawful, both, is_lawful, lawful_rest, small_number, small_option, small_optional}
 
 -- ---- the arguments of a command determine its request
 

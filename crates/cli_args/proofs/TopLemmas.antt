@@ -12,8 +12,8 @@ use Rattle.clap.specs.Words.{fault_of}
 use Rattle.clap.specs.declared.error.kind.ErrorKind.TheVariants as kind
 use Rattle.clap.proofs.OnLiterals.{clap_on_literals}
 use Rattle.cli_spec.specs.CommandLine.{Form, command_set, form_of}
-use Rattle.cli_args.proofs.SetLemmas.{command_names, commands, fault_is, found_name, met_by, top}
-use Rattle.cli_args.proofs.TableLemmas.{is_text}
+use Rattle.cli_args.proofs.ArgumentsSetLemmas.{command_names, commands, fault_is, found_name, met_by, top}
+use Rattle.cli_args.proofs.ArgumentsTableLemmas.{is_text}
 
 -- If two steps together give no error, then neither step gives an error.
 pub both_none : (a b : Kinds) → or_else a b ≡ [] → (a ≡ []) × (b ≡ [])

@@ -1,3 +1,3 @@
-pub mod Commands
+pub mod CommandSet
 pub mod Laws
 pub mod Requests

@@ -14,10 +14,10 @@ use Rattle.cli_spec.specs.CommandLine.{form_of}
 use Rattle.cli_spec.specs.CommandLine as outcome
 use Rattle.cli_spec.specs.declared.read_options.ReadOptions.{ReadOptions}
 use Rattle.cli_spec.specs.declared.style.Style.{Style}
-use Rattle.cli_args.specs.declared.read.Request.{Request}
-use Rattle.cli_args.specs.declared.read.Request.TheVariants as requests
-use Rattle.cli_args.specs.declared.read.ArgumentsError.{ArgumentsError}
-use Rattle.cli_args.specs.declared.read.ArgumentsError.TheVariants.{Usage, Memory}
+use Rattle.cli_args.specs.declared.request_parser.Request.{Request}
+use Rattle.cli_args.specs.declared.request_parser.Request.TheVariants as requests
+use Rattle.cli_args.specs.declared.request_parser.ArgumentsError.{ArgumentsError}
+use Rattle.cli_args.specs.declared.request_parser.ArgumentsError.TheVariants.{Usage, Memory}
 
 abbrev pub texts : List (String Global) → List (List ℕ)
 texts command_line = map (λ word. string_bytes word) command_line

@@ -3,8 +3,8 @@
 ghost use Rattle.std.specs.Prelude.{◌≡◌, IfOk, false};
 ghost use Rattle.clap.specs.Words.{app_of, rule_of};
 ghost use Rattle.cli_spec.specs.CommandLine.{rule_for, command_set as the_command_set};
-ghost use Rattle.cli_args.specs.Commands.{AddsMade, Reports, app_with, argument_of};
-ghost use Rattle.cli_args.specs.Commands.{program as the_program, program_with};
+ghost use Rattle.cli_args.specs.CommandSet.{AddsMade, Reports, app_with, argument_of};
+ghost use Rattle.cli_args.specs.CommandSet.{program as the_program, program_with};
 
 use clap::builder::ValueParser;
 use clap::{Arg, ArgAction, Command};

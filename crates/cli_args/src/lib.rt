@@ -17,6 +17,6 @@
 
 mod command_set;
 pub mod laws;
-mod read;
+mod request_parser;
 
-pub use read::{ArgumentsError, Request, read_arguments};
+pub use request_parser::{ArgumentsError, Request, read_arguments};

@@ -10,7 +10,7 @@ use Rattle.cli_spec.specs.RefusalText.{refusal_text}
 use Rattle.cli_spec.specs.declared.exit.Exit.{Exit}
 use Rattle.cli_spec.specs.declared.exit.Exit.TheVariants.{Value as value, Memory as out_of_memory}
 use Rattle.base_io.specs.Sink.{Writes, WritesPart}
-use Rattle.base_io.specs.State.{ByteState, Change}
+use Rattle.base_io.specs.StreamState.{ByteState, Change}
 use Rattle.marshal_write.specs.declared.write.compat.Compat.{Compat}
 use Rattle.marshal_write.specs.declared.write.compat.Compat.TheVariants as compats
 

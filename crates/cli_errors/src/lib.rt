@@ -22,7 +22,7 @@
 #![tactic(auto)]
 
 mod compat_text;
-pub mod exit;
-pub mod made;
+pub mod exit_constructors;
+pub mod exit_line;
 mod refusal_text;
 pub mod report;

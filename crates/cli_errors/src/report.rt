@@ -3,7 +3,7 @@
 ghost use Rattle.std.specs.Prelude.{◌≡◌, ◌⊎◌};
 ghost use Rattle.cli_spec.specs.declared.status.Status.TheVariants.{WriteFault};
 ghost use Rattle.base_io.specs.Sink.{Writes, WritesPart};
-ghost use Rattle.base_io.specs.State.{change};
+ghost use Rattle.base_io.specs.StreamState.{change};
 
 use base_io::{Failed, Sink, write_all};
 use cli_spec::status::Status;

@@ -33,22 +33,22 @@ pub use Rattle.cli_spec.specs.CommandLine.{typed_by, path_of, script_of, reading
 use Rattle.cli_spec.specs.RefusalText.{refusal_text, truncated_text}
 use Rattle.marshal_spec.specs.format.Isomorphism.{Isomorphism}
 use Rattle.marshal_spec.specs.format.Tree.{Tree, root, objects_of}
-use Rattle.marshal_spec.specs.format.Stream.{EncodeAll, End, clean, refused, cut, IsTail}
+use Rattle.marshal_spec.specs.format.Stream.{EncodeAll, StreamEnd, clean, refused, cut, IsTail}
 
 -- ---- input from the environment
 
 -- Why reading ended: at the end of the data, after a failed call, at 2^48 bytes or more, or because
 -- no more bytes were requested.
-pub data InputEnd : Type 0 where
-  at_end : InputEnd
-  at_fault : InputEnd
-  at_length : InputEnd
-  unasked : InputEnd
+pub data ReadingEnd : Type 0 where
+  at_end : ReadingEnd
+  at_fault : ReadingEnd
+  at_length : ReadingEnd
+  unasked : ReadingEnd
 
 -- The bytes that were read from the input or from a file.
 pub record Taken : Type 0 where
   pub bytes : List ℕ
-  pub until : InputEnd
+  pub until : ReadingEnd
 
 -- The result of a reading that reads no bytes and requests none.
 abbrev pub nothing : Taken
@@ -68,13 +68,13 @@ pub data Found : Type 0 where
 
 -- The results of fetching FILE and SCRIPT by name. The two files are fetched one after the other,
 -- and equal names may give two different results.
-pub record Fetches : Type 0 where
+pub record FetchResults : Type 0 where
   pub file : List ℕ → Found
   pub script : List ℕ → Found
 
 -- Everything that a run receives: the results of fetching its files, and the input.
-pub record Given : Type 0 where
-  pub files : Fetches
+pub record Received : Type 0 where
+  pub files : FetchResults
   pub input : Taken
 
 -- ---- exit reasons
@@ -237,7 +237,7 @@ ReadsArguments command_line (Err exit) = IsUsage command_line × (exit ≡ usage
 -- ---- the files
 
 -- The exit reason if reading failed or the data is too long.
-abbrev pub fault_of : InputEnd → Option Exit
+abbrev pub fault_of : ReadingEnd → Option Exit
 fault_of at_end = None
 fault_of at_fault = Some read_fault
 fault_of at_length = Some too_long
@@ -310,21 +310,21 @@ ReadsScriptOf language lines decimal script name =
     (λ refusal. script_line refusal.0 refusal.1))
 
 -- The operation for each value, after the arguments, the files and the type have been read.
-pub data Work (T E : Type 0) : Type 0 where
-  reports : Query → T → Work T E
-  edits : T → (script : List E) → (compat : Bool) → Work T E
-  dumps : Work T E
-  compares : Work T E
+pub data ValueWork (T E : Type 0) : Type 0 where
+  reports : Query → T → ValueWork T E
+  edits : T → (script : List E) → (compat : Bool) → ValueWork T E
+  dumps : ValueWork T E
+  compares : ValueWork T E
 
 -- The operation answers the given query for each value at the type.
 abbrev pub ReportsAt : {D T E : Type 0} → Language D T E → (List ℕ → Found) → List ℕ × AskedType
-    → Query → Result (Work T E) Exit → Type 0
+    → Query → Result (ValueWork T E) Exit → Type 0
 ReportsAt language file typed query result =
     Then (ReadsTypeOf language file typed) (λ type found. found ≡ Ok (reports query type)) result
 
 -- The operation edits the values at the type by the lines of SCRIPT.
-abbrev pub EditsBy : {D T E : Type 0} → Language D T E → Fetches → List ℕ × AskedType → List ℕ
-    → Bool → Result (Work T E) Exit → Type 0
+abbrev pub EditsBy : {D T E : Type 0} → Language D T E → FetchResults → List ℕ × AskedType → List ℕ
+    → Bool → Result (ValueWork T E) Exit → Type 0
 EditsBy language files typed script_name compat result =
     Then (ReadsTypeOf language files.file typed) (λ type.
     Then (ReadsScriptOf language typed.1.lines typed.1.decimal files.script script_name)
@@ -333,8 +333,8 @@ EditsBy language files typed script_name compat result =
 -- The stage that finds the operation of a request. PATH is parsed before FILE is read, and SCRIPT
 -- is read after TYPE. `dump` and `same` read no PATH, FILE, TYPE or SCRIPT. A command in a command
 -- set of its own has no operation in this definition.
-abbrev pub FindsWork : {D T E : Type 0} → Language D T E → Fetches → Request
-    → Result (Work T E) Exit → Type 0
+abbrev pub FindsWork : {D T E : Type 0} → Language D T E → FetchResults → Request
+    → Result (ValueWork T E) Exit → Type 0
 FindsWork language files (report query name type_text lines reading) result =
     ReportsAt language files.file (name, asked_type type_text lines) query result
 FindsWork language files (get name type_text path_text style lines reading) result =
@@ -351,13 +351,13 @@ FindsWork language files (own request) result = ⊥
 
 -- The operation for the values, and the limit of 64-bit words in each value.
 pub record Task (T E : Type 0) : Type 0 where
-  pub work : Work T E
+  pub work : ValueWork T E
   pub limit : ℕ
 
-abbrev pub task : {T E : Type 0} → Work T E → ℕ → Task T E
+abbrev pub task : {T E : Type 0} → ValueWork T E → ℕ → Task T E
 task work limit = record { work = work; limit = limit }
 
-abbrev pub Prepares : {D T E : Type 0} → Language D T E → List (List ℕ) → Fetches
+abbrev pub Prepares : {D T E : Type 0} → Language D T E → List (List ℕ) → FetchResults
     → Result (Task T E) Exit → Type 0
 Prepares language command_line files =
     Then (ReadsArguments command_line) (λ request.
@@ -372,7 +372,8 @@ line_past language script n = find (λ line. not (nat_lt (language.line_value li
 
 -- The output for a value after the values `earlier`. `same` reads two values and has no output for
 -- the two values before the end of the input.
-abbrev pub Outputs : {D T E : Type 0} → Language D T E → Work T E → (earlier : List Tree) → Tree
+abbrev pub Outputs : {D T E : Type 0} → Language D T E → ValueWork T E → (earlier : List Tree)
+    → Tree
     → Output
     → Type 0
 Outputs language (reports query type) earlier tree output =
@@ -384,7 +385,8 @@ Outputs language dumps earlier tree output =
 Outputs language compares earlier tree output = (length earlier < 2) × (output ≡ nothing_output)
 
 -- The outputs for the values `trees` after the values `earlier`.
-abbrev pub AllPrint : {D T E : Type 0} → Language D T E → Work T E → (earlier trees : List Tree)
+abbrev pub AllPrint : {D T E : Type 0} → Language D T E → ValueWork T E
+    → (earlier trees : List Tree)
     → List Output → Type 0
 AllPrint language work earlier [] [] = Unit {0}
 AllPrint language work earlier [] (output ∷ more) = ⊥
@@ -413,7 +415,8 @@ pub record IsUnedited {D T E : Type 0} (language : Language D T E) (type : T) (s
 -- After the given values, the command ends at the bytes `rest`, whatever comes after the part that
 -- the command reads. `edit` ends at a value that is not edited. `same` ends at any bytes after two
 -- values.
-abbrev pub ExitsAt : {D T E : Type 0} → Language D T E → Work T E → ℕ → List Tree → List ℕ → Exit
+abbrev pub ExitsAt : {D T E : Type 0} → Language D T E → ValueWork T E → ℕ → List Tree → List ℕ
+    → Exit
     → Type 0
 ExitsAt language (reports query type) limit trees rest exit = ⊥
 ExitsAt language (edits type script compat) limit trees rest exit =
@@ -438,7 +441,7 @@ ends_script language None = outputs nothing_output
 ends_script language (Some line) = exits (script_line (language.line_number line) (codes "NoValue"))
 
 -- The command's final reply, if the input ends cleanly after the given values.
-abbrev pub Finishes : {D T E : Type 0} → Language D T E → Work T E → List Tree → Reply → Type 0
+abbrev pub Finishes : {D T E : Type 0} → Language D T E → ValueWork T E → List Tree → Reply → Type 0
 Finishes language (reports query type) trees last = last ≡ outputs nothing_output
 Finishes language (edits type script compat) trees last =
     last ≡ ends_script language (line_past language script (length trees))
@@ -451,7 +454,8 @@ Finishes language compares trees last = last ≡ exits not_two_values
 -- and ends with the refusal. A run that ends with a refusal had no failed call on the input, and
 -- the input is not too long. If no bytes are refused, the end of the input or a failure of the
 -- input decides.
-abbrev pub Closes : {D T E : Type 0} → Language D T E → Work T E → List Tree → InputEnd → End
+abbrev pub Closes : {D T E : Type 0} → Language D T E → ValueWork T E → List Tree → ReadingEnd
+    → StreamEnd
     → Reply → Type 0
 Closes language work trees at_end clean last = Finishes language work trees last
 Closes language work trees at_end (cut n) last =
@@ -487,21 +491,23 @@ pub record ValuesReply {D T E : Type 0} (language : Language D T E) (task : Task
   pub last :
       ((exit : Exit) × ExitsAt language task.work task.limit trees rest exit
       × (fault_of input.until ≡ None) × (all.last ≡ exits exit))
-      ⊎ ((end : End) × IsTail task.limit rest end
+      ⊎ ((end : StreamEnd) × IsTail task.limit rest end
       × ((exit : Exit) → ExitsAt language task.work task.limit trees rest exit → ⊥)
       × Closes language task.work trees input.until end all.last)
 
 -- ---- the whole run
 
 -- The replies of a run, if memory suffices and all output is written.
-abbrev pub RunReplies : {D T E : Type 0} → Language D T E → List (List ℕ) → Given → Replies → Type 0
+abbrev pub RunReplies : {D T E : Type 0} → Language D T E → List (List ℕ) → Received → Replies
+    → Type 0
 RunReplies {D} {T} {E} language command_line given all =
     (prepared : Result (Task T E) Exit) × Prepares language command_line given.files prepared
     × MatchResult prepared (λ task. ValuesReply language task given.input all)
     (λ exit. all ≡ stopped exit)
 
 -- The outputs for some first values of the input.
-abbrev pub OutputsOfFirst : {D T E : Type 0} → Language D T E → List (List ℕ) → Given → List Output
+abbrev pub OutputsOfFirst : {D T E : Type 0} → Language D T E → List (List ℕ) → Received
+    → List Output
     → Type 0
 OutputsOfFirst {D} {T} {E} language command_line given output =
     (task : Task T E) × Prepares language command_line given.files (Ok task)
@@ -515,7 +521,7 @@ found_of None = missing
 found_of (Some bytes) = opened (whole bytes)
 
 -- The fetches of FILE and SCRIPT from one lookup by name.
-abbrev pub fetches_of : (List ℕ → Option (List ℕ)) → Fetches
+abbrev pub fetches_of : (List ℕ → Option (List ℕ)) → FetchResults
 fetches_of files =
     record { file = λ name. found_of (files name); script = λ name. found_of (files name) }
 

@@ -1,6 +1,6 @@
-pub mod AgreeLemmas
-pub mod OnceLemmas
-pub mod StepLemmas
+pub mod BuildAgreeLemmas
+pub mod BuildOnceLemmas
+pub mod BuildStepLemmas
 pub mod TextsLemmas
-pub mod FeedLemmas
+pub mod BuildFeedLemmas
 pub mod GuessLemmas

@@ -1,1 +1,1 @@
-pub mod EncodedLemmas
+pub mod GuessEncodedLemmas

@@ -1,6 +1,6 @@
-pub mod LineLemmas
-pub mod LawfulLemmas
-pub mod OutputLemmas
-pub mod TableLemmas
-pub mod DisjointLemmas
-pub mod NeverLemmas
+pub mod BuildSpecLineLemmas
+pub mod BuildSpecLawfulLemmas
+pub mod BuildSpecOutputLemmas
+pub mod BuildSpecTableLemmas
+pub mod BuildSpecDisjointLemmas
+pub mod BuildSpecNeverLemmas

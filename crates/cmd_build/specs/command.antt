@@ -1,4 +1,4 @@
-pub mod Given
+pub mod GivenLines
 pub mod Guessed
-pub mod Lines
-pub mod Steps
+pub mod InputLines
+pub mod LineSteps

@@ -1,3 +1,3 @@
-pub mod Texts
+pub mod InputTexts
 pub mod ExitStatuses
 pub mod Laws

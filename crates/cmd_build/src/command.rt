@@ -4,10 +4,10 @@
 //! has only one meaning.
 
 mod build_state;
-mod fault;
-mod given;
-mod guessed;
+mod checked_guess;
+mod given_lines;
 pub mod laws;
-mod line;
+mod line_fault;
+mod literal_line;
 
 pub use build_state::BuildState;

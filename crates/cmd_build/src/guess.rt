@@ -4,14 +4,14 @@
 //! names of the types are readable (`is_encoded`, law `EncodedAreReadable`).
 
 mod encoded;
+mod guess_parser;
+mod guess_scanners;
 mod guess_start;
-mod guessed;
+mod guess_text;
 mod guessed_block;
-mod known;
 mod laws;
-mod scan;
 
 pub use encoded::is_encoded;
-pub use guessed::guess;
-pub use known::has_text;
+pub use guess_parser::guess;
+pub use guess_text::has_text;
 pub use laws::encoded_are_readable;

@@ -1,4 +1,4 @@
-pub mod OnceLemmas
-pub mod LineLemmas
-pub mod ReadLemmas
-pub mod AccountLemmas
+pub mod CertifyOnceLemmas
+pub mod CertifyLineLemmas
+pub mod CertifyReadLemmas
+pub mod CertifyAccountLemmas

@@ -1,7 +1,7 @@
-pub mod EndLemmas
-pub mod ItemLemmas
-pub mod LawfulLemmas
-pub mod IdleLemmas
-pub mod OutputLemmas
-pub mod TableLemmas
-pub mod NeverLemmas
+pub mod CertifySpecEndLemmas
+pub mod CertifySpecItemLemmas
+pub mod CertifySpecLawfulLemmas
+pub mod CertifySpecIdleLemmas
+pub mod CertifySpecOutputLemmas
+pub mod CertifySpecTableLemmas
+pub mod CertifySpecNeverLemmas

@@ -1,3 +1,3 @@
 pub mod spec
-pub mod values
+pub mod value_items
 pub mod command

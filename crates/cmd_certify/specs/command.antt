@@ -1,2 +1,2 @@
-pub mod Certified
-pub mod Reading
+pub mod CertifiedOutput
+pub mod CertifyProgress

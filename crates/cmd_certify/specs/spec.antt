@@ -1,4 +1,4 @@
-pub mod Ends
+pub mod RefusedEnd
 pub mod Certification
 pub mod Laws
 pub mod ExitStatuses

@@ -3,11 +3,11 @@
 //! the value's first fault (`CertifiesFault`). The law `declared_certificates_are_one` proves that
 //! the entry is unique.
 
-mod command;
+mod certified_values;
+mod certify_input;
 pub mod laws;
-mod line;
-mod values;
+mod value_entry;
 
-pub use command::certify;
-pub use line::value_section;
-pub use values::Certifying;
+pub use certified_values::Certifying;
+pub use certify_input::certify;
+pub use value_entry::value_section;

@@ -3,8 +3,8 @@
 //!
 //! - `spec`: The specification of the command (`certifying`): the file FILE, the certificate entry
 //!   of a value by the value's number, where the run ends, and the statuses.
-//! - `values`: Definitions and lemmas about values read so far, for every command whose items are
-//!   values.
+//! - `value_items`: Definitions and lemmas about values read so far, for every command whose items
+//!   are values.
 //! - `command`: The implementation of the command at declared types (`certify`, `Certifying`,
 //!   `value_section`).
 //!
@@ -23,4 +23,4 @@
 
 pub mod command;
 pub mod spec;
-pub mod values;
+pub mod value_items;

@@ -6,16 +6,16 @@ use Rattle.cli_spec.specs.Outcome.{Request, report, get, edit, dump, compare, ow
 use Rattle.run_spec.specs.runs.Commands.{Commands}
 use Rattle.run_spec.specs.command_sum.CommandSum.{IsIdleAt, AreDisjoint}
 use Rattle.run_spec.specs.value_commands.Tasks.{commands}
-use Rattle.cmd_build.specs.spec.Texts.{Built, building}
-use Rattle.cmd_build.proofs.spec.DisjointLemmas.{values_idle, texts_idle}
+use Rattle.cmd_build.specs.spec.InputTexts.{Built, building}
+use Rattle.cmd_build.proofs.spec.BuildSpecDisjointLemmas.{values_idle, texts_idle}
 use Rattle.cmd_gen.specs.spec.GenSpec.{gen_spec}
-use Rattle.cmd_gen.proofs.spec.IdleLemmas.{gen_spec_idle}
+use Rattle.cmd_gen.proofs.spec.GenSpecIdleLemmas.{gen_spec_idle}
 use Rattle.cmd_verify.specs.spec.Verification.{Shown, ReadsSections, verifying}
-use Rattle.cmd_verify.proofs.spec.IdleLemmas.{certificates_idle}
+use Rattle.cmd_verify.proofs.spec.VerifySpecIdleLemmas.{certificates_idle}
 use Rattle.cmd_certify.specs.spec.Certification.{OutputsSections, certifying}
-use Rattle.cmd_certify.proofs.spec.IdleLemmas.{certifying_idle}
+use Rattle.cmd_certify.proofs.spec.CertifySpecIdleLemmas.{certifying_idle}
 use Rattle.cmd_scan.specs.spec.Searching.{searching}
-use Rattle.cmd_scan.proofs.spec.LawfulLemmas.{stands_disjoint}
+use Rattle.cmd_scan.proofs.spec.ScanSpecLawfulLemmas.{stands_disjoint}
 
 module _ {D T E : Type 0} (language : Language D T E) where
   pub made_disjoint : AreDisjoint (commands language) (gen_spec language)

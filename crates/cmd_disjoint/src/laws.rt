@@ -6,7 +6,7 @@ ghost use Rattle.run_spec.specs.value_commands.Tasks.{commands};
 ghost use Rattle.cmd_gen.specs.spec.GenSpec.{gen_spec};
 ghost use Rattle.cli_spec.specs.CommandLine.{searched_by};
 ghost use Rattle.cmd_scan.specs.spec.Searching.{searching};
-ghost use Rattle.cmd_build.specs.spec.Texts.{building};
+ghost use Rattle.cmd_build.specs.spec.InputTexts.{building};
 ghost use Rattle.cmd_verify.specs.spec.Verification.{verifying};
 
 use cmd_build::spec::laws::Builds;

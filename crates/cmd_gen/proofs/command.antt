@@ -1,6 +1,6 @@
-pub mod TypeLemmas
-pub mod VerdictLemmas
-pub mod LineLemmas
+pub mod GenTypeLemmas
+pub mod GenVerdictLemmas
+pub mod GenLineLemmas
 pub mod MakingLemmas
 pub mod AskLemmas
-pub mod AccountLemmas
+pub mod GenAccountLemmas

@@ -1,4 +1,4 @@
-pub mod ItemLemmas
-pub mod LineLemmas
-pub mod ObjectLemmas
+pub mod GeneratorItemLemmas
+pub mod GeneratorLineLemmas
+pub mod GeneratorObjectLemmas
 pub mod WorkedLemmas

@@ -1,5 +1,5 @@
-pub mod FindLemmas
-pub mod LawfulLemmas
-pub mod IdleLemmas
+pub mod GenSpecFindLemmas
+pub mod GenSpecLawfulLemmas
+pub mod GenSpecIdleLemmas
 pub mod DueLemmas
 pub mod LeavesLemmas

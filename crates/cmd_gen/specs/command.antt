@@ -1,2 +1,2 @@
-pub mod Types
-pub mod Lines
+pub mod ItemTypes
+pub mod OutputLines

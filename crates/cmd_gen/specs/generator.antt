@@ -1,6 +1,6 @@
 pub mod Generated
-pub mod Items
-pub mod Line
+pub mod GeneratedItems
+pub mod ValueLine
 pub mod Sound
 pub mod Tally
 pub mod Worked

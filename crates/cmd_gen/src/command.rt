@@ -2,10 +2,10 @@
 //! the value at its type, and writes a line about the value. The command fetches no file and reads
 //! no input. The contract of `run_gen_spec` states that the run satisfies `Account`.
 
-mod line;
+mod item_types;
 mod making;
-mod run;
-mod types;
-mod verdict;
+mod output_line;
+mod run_gen;
+mod verdict_line;
 
-pub use run::run_gen_spec;
+pub use run_gen::run_gen_spec;

@@ -3,14 +3,14 @@
 //! `generated_line` promises the line for a value, whose verdict the caller supplies.
 
 mod generated_item;
+mod generated_value;
+mod item_objects;
 mod laws;
-mod line;
-mod made;
-mod objects;
 mod received_bytes;
 mod tally;
+mod value_line;
 
 pub use generated_item::declarations;
+pub use generated_value::{Generated, generate};
 pub use laws::worked_values_are_generated;
-pub use line::generated_line;
-pub use made::{Generated, generate};
+pub use value_line::generated_line;

@@ -1,5 +1,5 @@
 pub mod LastLemmas
-pub mod SearchLemmas
-pub mod FeedLemmas
-pub mod AccountLemmas
+pub mod ScanCommandSearchLemmas
+pub mod ScanCommandFeedLemmas
+pub mod ScanCommandAccountLemmas
 pub mod ClearLemmas

@@ -1,6 +1,6 @@
-pub mod OutputLemmas
-pub mod LawfulLemmas
-pub mod EndLemmas
-pub mod TableLemmas
-pub mod NeverLemmas
+pub mod ScanSpecOutputLemmas
+pub mod ScanSpecLawfulLemmas
+pub mod ScanSpecEndLemmas
+pub mod ScanSpecTableLemmas
+pub mod ScanSpecNeverLemmas
 pub mod ReportLemmas

@@ -1,3 +1,3 @@
-pub mod NextLemmas
-pub mod PartsLemmas
+pub mod SweepNextLemmas
+pub mod SweepPartsLemmas
 pub mod ClaimLemmas

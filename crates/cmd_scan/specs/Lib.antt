@@ -1,4 +1,4 @@
-pub mod found
+pub mod found_positions
 pub mod spec
 pub mod sweep
 pub mod command

@@ -1,3 +1,3 @@
 pub mod Last
 pub mod Passed
-pub mod Searched
+pub mod SearchOutput

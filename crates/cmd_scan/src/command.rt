@@ -5,8 +5,8 @@
 
 mod clear;
 mod last;
-mod run;
-mod search;
+mod search_run;
+mod searching;
 
-pub use run::search_input;
-pub use search::Searching;
+pub use search_run::search_input;
+pub use searching::Searching;

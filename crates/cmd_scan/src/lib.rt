@@ -1,6 +1,6 @@
 //! The command `scan`: finds the marshalled values in any input and prints their positions.
 //!
-//! - `found`: The definition of the positions of values in an input, from left to right
+//! - `found_positions`: The definition of the positions of values in an input, from left to right
 //!   (`ArePositions`).
 //! - `spec`: The specification of the command (`searching`), which needs no file and no type.
 //! - `sweep`: Reads buffered bytes part by part and prints a line for each value (`sweep`,
@@ -26,6 +26,6 @@
 #![tactic(auto)]
 
 pub mod command;
-pub mod found;
+pub mod found_positions;
 pub mod spec;
 pub mod sweep;

@@ -5,10 +5,10 @@
 //! of parts and lines is in `found`.
 
 mod claim;
-mod kind;
-mod line;
+mod input_parts;
+mod kind_text;
 mod next_part;
-mod parts;
+mod position_line;
 
-pub use line::write_value;
-pub use parts::{Swept, sweep, sweep_all};
+pub use input_parts::{Swept, sweep, sweep_all};
+pub use position_line::write_value;

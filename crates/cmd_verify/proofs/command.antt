@@ -1,5 +1,5 @@
-pub mod OnceLemmas
-pub mod JudgeLemmas
-pub mod ReadLemmas
-pub mod FileLemmas
-pub mod AccountLemmas
+pub mod VerifyOnceLemmas
+pub mod VerifyJudgeLemmas
+pub mod VerifyReadLemmas
+pub mod VerifyFileLemmas
+pub mod VerifyAccountLemmas

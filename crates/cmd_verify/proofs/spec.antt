@@ -1,7 +1,7 @@
-pub mod ItemLemmas
-pub mod FindLemmas
-pub mod LawfulLemmas
-pub mod OutputLemmas
-pub mod TableLemmas
-pub mod IdleLemmas
-pub mod NeverLemmas
+pub mod VerifySpecItemLemmas
+pub mod VerifySpecFindLemmas
+pub mod VerifySpecLawfulLemmas
+pub mod VerifySpecOutputLemmas
+pub mod VerifySpecTableLemmas
+pub mod VerifySpecIdleLemmas
+pub mod VerifySpecNeverLemmas

@@ -1,5 +1,5 @@
-pub mod Shown
+pub mod VerifiedSections
 pub mod Judged
-pub mod Reading
-pub mod Files
-pub mod Asked
+pub mod VerifyProgress
+pub mod CertificateFile
+pub mod VerifyRequest

@@ -3,13 +3,13 @@
 //! has the stated fault (`ShowsFault`). A missing or rejected entry ends the run. The check of a
 //! single entry is in `cert_verify`.
 
-mod command;
-mod files;
-mod judge;
+mod certificate_file;
 pub mod laws;
 mod reason;
-mod values;
+mod verified_value;
+mod verified_values;
+mod verify_input;
 
-pub use command::verify;
-pub use files::find_certificate;
-pub use values::Certified;
+pub use certificate_file::find_certificate;
+pub use verified_values::Certified;
+pub use verify_input::verify;

@@ -12,25 +12,25 @@ use Rattle.types_lex.specs.declared.lexeme.Lexeme.{Lexeme}
 use Rattle.marshal_heap.specs.heap.Heap.{object_at}
 use Rattle.types_spec.specs.types.Table.{table_shapes}
 use Rattle.types_table.specs.declared.type_table.tabled.Tabled.{Tabled}
-use Rattle.types_spec.specs.types.Lawful.{Everything}
-use Rattle.types_spec.proofs.types.FaultLemmas.{fault_excludes_type}
+use Rattle.types_spec.specs.types.LawfulShapes.{Everything}
+use Rattle.types_spec.proofs.types.TypeFaultLemmas.{fault_excludes_type}
 use Rattle.types_table.specs.type_table.Made.{table_of, IsLawful}
-use Rattle.text_literal.specs.declared.parser.fault.LiteralFault.{LiteralFault}
-use Rattle.text_literal.specs.declared.parser.fault.LiteralFault.TheVariants as faults
+use Rattle.text_literal.specs.declared.parser.literal_fault.LiteralFault.{LiteralFault}
+use Rattle.text_literal.specs.declared.parser.literal_fault.LiteralFault.TheVariants as faults
 use Rattle.text_literal.specs.parser.LiteralAnswers.{shape_in, names_in, in_bytes, fault_of, IsMisread, IsAnswered}
-use Rattle.text_literal.specs.parser.Reading.{Refusal, mismatch_at, int_range_at, label_at}
+use Rattle.text_literal.specs.parser.LiteralReading.{LiteralRefusal, mismatch_at, int_range_at, label_at}
 use Rattle.text_path.specs.declared.edits.Edit.{Edit}
 use Rattle.text_path.specs.declared.edits.Edit.TheVariants as edits
 use Rattle.edit_values.specs.declared.spots.TypedLocation.{TypedLocation}
-use Rattle.edit_values.specs.declared.refusal.EditSide.{EditSide}
-use Rattle.edit_values.specs.declared.refusal.EditSide.TheVariants.{Left, Right}
-use Rattle.edit_values.specs.declared.refusal.EditRefusal.{EditRefusal}
-use Rattle.edit_values.specs.declared.refusal.EditRefusal.TheVariants as refusals
-use Rattle.edit_values.specs.Positions.{position_at, on_side}
+use Rattle.edit_values.specs.declared.edit_refusal.EditSide.{EditSide}
+use Rattle.edit_values.specs.declared.edit_refusal.EditSide.TheVariants.{Left, Right}
+use Rattle.edit_values.specs.declared.edit_refusal.EditRefusal.{EditRefusal}
+use Rattle.edit_values.specs.declared.edit_refusal.EditRefusal.TheVariants as refusals
+use Rattle.edit_values.specs.EditPositions.{position_at, on_side}
 use Rattle.edit_values.specs.Reasons.{Reason, no_field, not_block, no_literal, misread, literal_reason, reason_of}
-use Rattle.edit_values.specs.EditedValues.{Answer, write_at, linked, copied, object_of, unshared, IsSet, IsMade}
-use Rattle.edit_values.specs.Tables.{SameClass, IsAnswerIn, IsApplied, IsKept, IsRefusedFor, IsReason, Gives}
-use Rattle.edit_values.proofs.MadeLemmas.{answer_once}
+use Rattle.edit_values.specs.EditedValues.{EditAnswer, write_at, linked, copied, object_of, unshared, IsSet, IsMade}
+use Rattle.edit_values.specs.TableEdits.{SameClass, IsAnswerIn, IsApplied, IsKept, IsRefusedFor, IsReason, Gives}
+use Rattle.edit_values.proofs.EditMadeLemmas.{answer_once}
 
 pub first_of : (old more new : List Obj) (count : ℕ) → count ≡ length old → new ≡ old ++ more → take count new ≡ old
 first_of old more new count many is =
@@ -54,7 +54,7 @@ module _ (table : Tabled) where
   abbrev pub position_of : List Obj → Val → List ℕ → Found
   position_of graph root path = position_at (table_shapes (table_of table)) graph root 0 path
 
-  abbrev pub IsMadeIn : Edit → List Obj → Val → Answer ℕ → Type 0
+  abbrev pub IsMadeIn : Edit → List Obj → Val → EditAnswer ℕ → Type 0
   IsMadeIn edit graph root made = IsMade (shape_in table) (names_in table) (SameClass table) 0 edit graph root made
 
   -- If an edit has a reason, then the unchanged value with that reason is a result of a call.
@@ -107,7 +107,7 @@ module _ (table : Tabled) where
 
   -- ---- literals
 
-  mismatch_is : (position t : ℕ) (x : Refusal ℕ) → faults.Mismatch position t ≡ fault_of x → mismatch_at position t ≡ x
+  mismatch_is : (position t : ℕ) (x : LiteralRefusal ℕ) → faults.Mismatch position t ≡ fault_of x → mismatch_at position t ≡ x
   mismatch_is position t (mismatch_at k u) is = cc
   mismatch_is position t (int_range_at k) is = absurd (never k is) where
     never : (k : ℕ) → faults.Mismatch position t ≡ faults.IntRange k → ⊥
@@ -116,7 +116,7 @@ module _ (table : Tabled) where
     never : (k : ℕ) → faults.Mismatch position t ≡ faults.Label k → ⊥
     never k is = cc
 
-  range_is : (position : ℕ) (x : Refusal ℕ) → faults.IntRange position ≡ fault_of x → int_range_at position ≡ x
+  range_is : (position : ℕ) (x : LiteralRefusal ℕ) → faults.IntRange position ≡ fault_of x → int_range_at position ≡ x
   range_is position (int_range_at k) is = cc
   range_is position (mismatch_at k u) is = absurd (never k u is) where
     never : (k u : ℕ) → faults.IntRange position ≡ faults.Mismatch k u → ⊥
@@ -125,7 +125,7 @@ module _ (table : Tabled) where
     never : (k : ℕ) → faults.IntRange position ≡ faults.Label k → ⊥
     never k is = cc
 
-  label_is : (position : ℕ) (x : Refusal ℕ) → faults.Label position ≡ fault_of x → label_at position ≡ x
+  label_is : (position : ℕ) (x : LiteralRefusal ℕ) → faults.Label position ≡ fault_of x → label_at position ≡ x
   label_is position (label_at k) is = cc
   label_is position (mismatch_at k u) is = absurd (never k u is) where
     never : (k u : ℕ) → faults.Label position ≡ faults.Mismatch k u → ⊥
@@ -135,7 +135,7 @@ module _ (table : Tabled) where
     never k is = cc
 
   module _ (path : List ℕ) (lexemes : List Lexeme) (end : ℕ) (old : List Obj) (root : Val) (p : TypedLocation ℕ) (found : Ok p ≡ on_side Left (position_of old root path)) where
-    set_in : (made : Answer ℕ) → IsSet (shape_in table) (names_in table) old root (Ok p) lexemes end made → IsMadeIn (edits.Set path lexemes end) old root made
+    set_in : (made : EditAnswer ℕ) → IsSet (shape_in table) (names_in table) old root (Ok p) lexemes end made → IsMadeIn (edits.Set path lexemes end) old root made
     set_in made is =
         subst (λ x. IsSet (shape_in table) (names_in table) old root x lexemes end made) (sym (found_is Left (position_of old root path) p found)) is
 
@@ -145,7 +145,7 @@ module _ (table : Tabled) where
         set_in (Ok (write_at p.spot value new root))
         (is.objects, value, (is.literal, is.encoded, is.read), ap (λ g. write_at p.spot value g root) is.behind)
 
-    misread_in : (fault : LiteralFault) (reason : Refusal ℕ) (m : IsMisread table p.ty lexemes end (length old) fault) → reason ≡ in_bytes lexemes end m.refusal
+    misread_in : (fault : LiteralFault) (reason : LiteralRefusal ℕ) (m : IsMisread table p.ty lexemes end (length old) fault) → reason ≡ in_bytes lexemes end m.refusal
         → IsMadeIn (edits.Set path lexemes end) old root (Err (misread reason))
     misread_in fault reason m same = set_in (Err (misread reason)) (m.literal, m.refusal, m.encoded, m.refused, same)
 
@@ -217,19 +217,19 @@ module _ (table : Tabled) where
   -- ---- the result is the only answer
 
   module _ (lawful : IsLawful (table_of table)) where
-    pub once : (edit : Edit) (graph : List Obj) (root : Val) (answer other : Answer ℕ) → IsAnswerIn table edit graph root answer
+    pub once : (edit : Edit) (graph : List Obj) (root : Val) (answer other : EditAnswer ℕ) → IsAnswerIn table edit graph root answer
         → IsAnswerIn table edit graph root other → answer ≡ other
     once edit graph root =
         answer_once (shape_in table) (names_in table) (SameClass table) 0
         (λ g v fault. fault_excludes_type (table_shapes (table_of table)) Everything lawful.lawful g v 0 fault tt) edit graph root
 
-    for_reason : (edit : Edit) (graph : List Obj) (root : Val) (answer : Answer ℕ) → IsAnswerIn table edit graph root answer → (reason : Option (Reason ℕ))
+    for_reason : (edit : Edit) (graph : List Obj) (root : Val) (answer : EditAnswer ℕ) → IsAnswerIn table edit graph root answer → (reason : Option (Reason ℕ))
         → IsRefusedFor table edit graph root reason → IsReason answer reason
     for_reason edit graph root answer known None is = tt
     for_reason edit graph root answer known (Some reason) is = once edit graph root answer (Err reason) known is
 
     pub only_given : (edit : Edit) (graph : List Obj) (root : Val) (new : List Obj) (new_root : Val) (result : Result (Unit {0}) EditRefusal)
-        → IsApplied table edit graph root new new_root result → (answer : Answer ℕ) → IsAnswerIn table edit graph root answer
+        → IsApplied table edit graph root new new_root result → (answer : EditAnswer ℕ) → IsAnswerIn table edit graph root answer
         → Gives answer new new_root result
     only_given edit graph root new new_root (Ok unit) is answer known = once edit graph root answer (Ok (new, new_root)) known is
     only_given edit graph root new new_root (Err refusal) is answer known = for_reason edit graph root answer known (reason_of refusal) is.2

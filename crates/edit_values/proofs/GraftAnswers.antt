@@ -10,13 +10,13 @@ use Rattle.types_spec.specs.declared.types.shape.ShapeOf.{ShapeOf}
 use Rattle.types_spec.specs.types.Equal.{Equal, declared_shapes}
 use Rattle.types_spec.specs.types.Fault.{IsFault}
 use Rattle.types_spec.specs.types.Fitting.{shaped}
-use Rattle.types_spec.specs.types.Lawful.{Everything}
+use Rattle.types_spec.specs.types.LawfulShapes.{Everything}
 use Rattle.types_spec.specs.types.Names.{names_of}
 use Rattle.types_spec.specs.types.Shape.{shape}
 use Rattle.types_spec.specs.types.Table.{table_shapes}
 use Rattle.types_spec.specs.types.Ty.{Ty}
 use Rattle.types_spec.specs.types.Typing.{HasType}
-use Rattle.types_spec.proofs.types.FaultLemmas.{fault_excludes_type}
+use Rattle.types_spec.proofs.types.TypeFaultLemmas.{fault_excludes_type}
 use Rattle.marshal_spec.specs.format.Tree.{objects_of, root as top_of}
 use Rattle.marshal_spec.proofs.canonical.SameTree.{one_tree_only}
 use Rattle.types_table.specs.declared.type_table.tabled.Tabled.{Tabled}
@@ -24,21 +24,21 @@ use Rattle.types_table.specs.type_table.Made.{table_of, IsLawful, IsTypeTable}
 use Rattle.text_literal.specs.parser.LiteralAnswers.{shape_in, names_in}
 use Rattle.marshal_write.specs.graft.Copies.{IsCopy, HasCopy}
 use Rattle.edit_values.specs.declared.spots.TypedLocation.{TypedLocation}
-use Rattle.edit_values.specs.declared.refusal.EditSide.{EditSide}
-use Rattle.edit_values.specs.declared.refusal.EditSide.TheVariants.{Left, Right}
-use Rattle.edit_values.specs.declared.refusal.EditRefusal.{EditRefusal}
-use Rattle.edit_values.specs.declared.refusal.EditRefusal.TheVariants as refusals
-use Rattle.edit_values.specs.EditedValues.{Answer, write_at}
+use Rattle.edit_values.specs.declared.edit_refusal.EditSide.{EditSide}
+use Rattle.edit_values.specs.declared.edit_refusal.EditSide.TheVariants.{Left, Right}
+use Rattle.edit_values.specs.declared.edit_refusal.EditRefusal.{EditRefusal}
+use Rattle.edit_values.specs.declared.edit_refusal.EditRefusal.TheVariants as refusals
+use Rattle.edit_values.specs.EditedValues.{EditAnswer, write_at}
 use Rattle.edit_values.specs.GraftLaws.{IsDeclaredGraft, HasGraft}
 use Rattle.edit_values.specs.Grafts.{Other, IsGraftAt, IsGraft, IsGrafted, IsGraftAnswer, IsGraftAnswerIn, IsNotGraftedFor, IsGraftApplied}
 use Rattle.edit_values.specs.Laws.{SayTheSame}
-use Rattle.edit_values.specs.Positions.{position_at, on_side}
+use Rattle.edit_values.specs.EditPositions.{position_at, on_side}
 use Rattle.edit_values.specs.Reasons.{Reason, no_field, not_block, no_literal, misread, ill_typed, reason_of}
-use Rattle.edit_values.specs.Tables.{SameClass, IsKept, IsReason, Gives}
-use Rattle.edit_values.proofs.AgreeLemmas.{PositionsAgree, AnswersAgree, positions, follows_agree, say_the_same}
+use Rattle.edit_values.specs.TableEdits.{SameClass, IsKept, IsReason, Gives}
+use Rattle.edit_values.proofs.EditAgreeLemmas.{PositionsAgree, AnswersAgree, positions, follows_agree, say_the_same}
 use Rattle.edit_values.proofs.ApplyLemmas.{Found, found_is, position_of, first_of}
 use Rattle.edit_values.proofs.GraftLemmas.{has_graft}
-use Rattle.edit_values.proofs.MadeLemmas.{Follows, follows_once}
+use Rattle.edit_values.proofs.EditMadeLemmas.{Follows, follows_once}
 
 -- ---- one answer
 
@@ -51,7 +51,7 @@ copy_once h v c copied others value other one two =
     )
 
 module _ {T : Type 0} where
-  graft_at_once : (graph : List Obj) (root : Val) (p : TypedLocation T) (h : List Obj) (part : TypedLocation T) (made other : Answer T)
+  graft_at_once : (graph : List Obj) (root : Val) (p : TypedLocation T) (h : List Obj) (part : TypedLocation T) (made other : EditAnswer T)
       → IsGraftAt graph root p h part made → IsGraftAt graph root p h part other → made ≡ other
   graft_at_once graph root p h part (Ok made) (Ok other) (copied, value, copy, is) (others, value', copy', is') =
       let same = copy_once h part.value (length graph) copied others value value' copy copy' in
@@ -59,7 +59,7 @@ module _ {T : Type 0} where
   graft_at_once graph root p h part (Err reason) other one two = absurd one
   graft_at_once graph root p h part (Ok made) (Err reason) one two = absurd two
 
-  graft_once : (graph : List Obj) (root : Val) (left : Result (TypedLocation T) ℕ) (h : List Obj) (right : Result (TypedLocation T) ℕ) (made other : Answer T)
+  graft_once : (graph : List Obj) (root : Val) (left : Result (TypedLocation T) ℕ) (h : List Obj) (right : Result (TypedLocation T) ℕ) (made other : EditAnswer T)
       → IsGraft graph root left h right made → IsGraft graph root left h right other → made ≡ other
   graft_once graph root (Err step) h right made other one two = one ∙ sym two
   graft_once graph root (Ok p) h (Err step) made other one two = one ∙ sym two
@@ -68,24 +68,24 @@ module _ {T : Type 0} where
   no_field_only : (graph : List Obj) (root : Val) (left : Result (TypedLocation T) ℕ) (h : List Obj) (right : Result (TypedLocation T) ℕ) (fault : Fault)
       → IsGraft graph root left h right (Err (ill_typed fault)) → ⊥
   no_field_only graph root (Err step) h right fault is = never Left step is where
-    never : (side : EditSide) (step : ℕ) → ◌≡◌ {A = Answer T} (Err (ill_typed fault)) (Err (no_field side step)) → ⊥
+    never : (side : EditSide) (step : ℕ) → ◌≡◌ {A = EditAnswer T} (Err (ill_typed fault)) (Err (no_field side step)) → ⊥
     never side step is = cc
   no_field_only graph root (Ok p) h (Err step) fault is = never Right step is where
-    never : (side : EditSide) (step : ℕ) → ◌≡◌ {A = Answer T} (Err (ill_typed fault)) (Err (no_field side step)) → ⊥
+    never : (side : EditSide) (step : ℕ) → ◌≡◌ {A = EditAnswer T} (Err (ill_typed fault)) (Err (no_field side step)) → ⊥
     never side step is = cc
   no_field_only graph root (Ok p) h (Ok part) fault is = is
 
 module _ {T : Type 0} (shape : T → ShapeOf T) (names : T → Names) (Equal : T → T → Type 0) (t : T) (path : List ℕ) (other : Other) (source : List ℕ) (graph : List Obj) (root : Val) where
-  abbrev pub MadeBy : Answer T → Type 0
+  abbrev pub MadeBy : EditAnswer T → Type 0
   MadeBy made = IsGrafted shape Equal t path other source graph root made
 
-  abbrev pub Answers : Answer T → Type 0
+  abbrev pub Answers : EditAnswer T → Type 0
   Answers answer = IsGraftAnswer shape Equal t path other source graph root answer
 
-  abbrev pub FollowsFrom : Answer T → Answer T → Type 0
+  abbrev pub FollowsFrom : EditAnswer T → EditAnswer T → Type 0
   FollowsFrom made answer = Follows shape names Equal t made answer
 
-  pub graft_parted : (answer : Answer T) → Answers answer → (made : Answer T) × MadeBy made × FollowsFrom made answer
+  pub graft_parted : (answer : EditAnswer T) → Answers answer → (made : EditAnswer T) × MadeBy made × FollowsFrom made answer
   graft_parted (Ok made) is = (Ok made, is.0, (refl, is.1))
   graft_parted (Err (ill_typed fault)) is = (Ok is.0, is.1, (fault, refl, is.2))
   graft_parted (Err (no_field side step)) is = (Err (no_field side step), is, refl)
@@ -101,13 +101,13 @@ module _ {T : Type 0} (shape : T → ShapeOf T) (names : T → Names) (Equal : T
   refused (no_literal position) is = is
   refused (misread refusal) is = is
 
-  pub graft_joined : (made answer : Answer T) → MadeBy made → FollowsFrom made answer → Answers answer
+  pub graft_joined : (made answer : EditAnswer T) → MadeBy made → FollowsFrom made answer → Answers answer
   graft_joined (Ok made) (Ok edited) is (same, typed) = subst (λ e. Answers (Ok e)) same (is, typed)
   graft_joined (Ok made) (Err reason) is (fault, same, least) = subst (λ r. Answers (Err r)) (sym same) (made, is, least)
   graft_joined (Err reason) answer is same = subst Answers (sym same) (refused reason is)
 
   pub grafts_once : ((graph : List Obj) (v : Val) (fault : Fault) → IsFault (shaped shape Equal) graph v t fault → HasType (shaped shape Equal) graph v t → ⊥)
-      → (answer answer' : Answer T) → Answers answer → Answers answer' → answer ≡ answer'
+      → (answer answer' : EditAnswer T) → Answers answer → Answers answer' → answer ≡ answer'
   grafts_once never_both answer answer' is its =
       let one = graft_parted answer is in
       let two = graft_parted answer' its in
@@ -119,12 +119,12 @@ module _ {T : Type 0} (shape : T → ShapeOf T) (names : T → Names) (Equal : T
 
 module _ (decls : List Decl) (t : Ty) (table : Tabled) (is : IsTypeTable decls t table) where
   module _ (graph : List Obj) (root : Val) (h : List Obj) where
-    abbrev Agree : Answer ℕ → Answer Ty → Type 0
+    abbrev Agree : EditAnswer ℕ → EditAnswer Ty → Type 0
     Agree one other = AnswersAgree decls t table is one other
 
     graft_agree : (left : Result (TypedLocation ℕ) ℕ) (left' : Result (TypedLocation Ty) ℕ) (right : Result (TypedLocation ℕ) ℕ) (right' : Result (TypedLocation Ty) ℕ)
-        → PositionsAgree decls t table is graph left left' → PositionsAgree decls t table is h right right' → (made : Answer ℕ)
-        → IsGraft graph root left h right made → (made' : Answer Ty) × IsGraft graph root left' h right' made' × Agree made made'
+        → PositionsAgree decls t table is graph left left' → PositionsAgree decls t table is h right right' → (made : EditAnswer ℕ)
+        → IsGraft graph root left h right made → (made' : EditAnswer Ty) × IsGraft graph root left' h right' made' × Agree made made'
     graft_agree (Err n) (Err n') right right' one two made known =
         (Err (no_field Left n'), refl, subst (λ m. Agree m (Err (no_field Left n'))) (sym known) (refl, one))
     graft_agree (Ok p) (Ok p') (Err n) (Err n') one two made known =
@@ -140,9 +140,9 @@ module _ (decls : List Decl) (t : Ty) (table : Tabled) (is : IsTypeTable decls t
     graft_agree (Ok p) (Ok p') (Err n) (Ok q') one two made known = absurd two
     graft_agree (Ok p) (Ok p') (Ok q) (Err n') one two made known = absurd two
 
-  pub graft_answer_agree : (path : List ℕ) (other : Other) (source : List ℕ) (graph : List Obj) (root : Val) (answer : Answer ℕ)
+  pub graft_answer_agree : (path : List ℕ) (other : Other) (source : List ℕ) (graph : List Obj) (root : Val) (answer : EditAnswer ℕ)
       → IsGraftAnswerIn table path other source graph root answer
-      → (declared : Answer Ty) × IsDeclaredGraft decls t path other source graph root declared × SayTheSame table answer declared
+      → (declared : EditAnswer Ty) × IsDeclaredGraft decls t path other source graph root declared × SayTheSame table answer declared
   graft_answer_agree path other source graph root answer known =
       let parts = graft_parted (shape_in table) (names_in table) (SameClass table) 0 path other source graph root answer known in
       let made = graft_agree graph root other.0
@@ -196,19 +196,19 @@ module _ (table : Tabled) (path : List ℕ) (other : Other) (source : List ℕ) 
   -- ---- the result is the only answer
 
   module _ (lawful : IsLawful (table_of table)) where
-    pub graft_known_once : (answer answer' : Answer ℕ) → IsGraftAnswerIn table path other source graph root answer
+    pub graft_known_once : (answer answer' : EditAnswer ℕ) → IsGraftAnswerIn table path other source graph root answer
         → IsGraftAnswerIn table path other source graph root answer' → answer ≡ answer'
     graft_known_once =
         grafts_once (shape_in table) (names_in table) (SameClass table) 0 path other source graph root
         (λ g v fault. fault_excludes_type (table_shapes (table_of table)) Everything lawful.lawful g v 0 fault tt)
 
-    for_reason : (answer : Answer ℕ) → IsGraftAnswerIn table path other source graph root answer → (reason : Option (Reason ℕ)) → RefusedFor reason
+    for_reason : (answer : EditAnswer ℕ) → IsGraftAnswerIn table path other source graph root answer → (reason : Option (Reason ℕ)) → RefusedFor reason
         → IsReason answer reason
     for_reason answer known None is = tt
     for_reason answer known (Some reason) is = graft_known_once answer (Err reason) known is
 
     pub graft_given : (new : List Obj) (new_root : Val) (result : Result (Unit {0}) EditRefusal) → AppliedTo new new_root result
-        → (answer : Answer ℕ) → IsGraftAnswerIn table path other source graph root answer → Gives answer new new_root result
+        → (answer : EditAnswer ℕ) → IsGraftAnswerIn table path other source graph root answer → Gives answer new new_root result
     graft_given new new_root (Ok unit) is answer known = graft_known_once answer (Ok (new, new_root)) known is
     graft_given new new_root (Err refusal) is answer known = for_reason answer known (reason_of refusal) is.2
 

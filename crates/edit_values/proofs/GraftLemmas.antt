@@ -14,15 +14,15 @@ use Rattle.types_spec.specs.types.Fitting.{shaped}
 use Rattle.types_spec.specs.types.Shapes.{Shapes}
 use Rattle.types_spec.specs.types.Typing.{values_of, field_at, HasType}
 use Rattle.marshal_heap.specs.heap.Heap.{object_at, with_field, set_field}
-use Rattle.marshal_spec.proofs.canonical.ListLemmas.{slice_get_right}
+use Rattle.marshal_spec.proofs.canonical.CanonicalListLemmas.{slice_get_right}
 use Rattle.edit_values.specs.declared.spots.TypedLocation.{TypedLocation}
 use Rattle.edit_values.specs.declared.spots.Location.{Location}
 use Rattle.edit_values.specs.declared.spots.Location.TheVariants as spots
 use Rattle.edit_values.specs.EditedValues.{write_at}
-use Rattle.edit_values.specs.Positions.{position_at, position_from, or_step, spot_after, StandsAt}
-use Rattle.edit_values.proofs.WriteLemmas.{as_many, stands_behind}
+use Rattle.edit_values.specs.EditPositions.{position_at, position_from, or_step, spot_after, StandsAt}
+use Rattle.edit_values.proofs.EditWriteLemmas.{as_many, stands_behind}
 use Rattle.marshal_write.specs.graft.Copies.{StandFrom, IsWithin, AreWithin}
-use Rattle.marshal_write.proofs.graft.CopyLemmas.{copy_same, copies_are_closed}
+use Rattle.marshal_write.proofs.graft.GraftCopyLemmas.{copy_same, copies_are_closed}
 use Rattle.edit_values.specs.Grafts.{Other, IsGraftAt, IsGraft, IsGraftAnswer}
 use Rattle.edit_values.specs.GraftLaws.{HasGraft}
 

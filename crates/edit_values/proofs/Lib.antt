@@ -1,8 +1,8 @@
-pub mod WriteLemmas
-pub mod MadeLemmas
-pub mod AgreeLemmas
+pub mod EditWriteLemmas
+pub mod EditMadeLemmas
+pub mod EditAgreeLemmas
 pub mod ApplyLemmas
 pub mod GraftLemmas
 pub mod GraftAnswers
-pub mod LineLemmas
-pub mod WildcardLemmas
+pub mod EditLineLemmas
+pub mod EditWildcardLemmas

@@ -14,22 +14,22 @@ use Rattle.types_spec.specs.types.LeastFault.{IsLeastFault}
 use Rattle.types_spec.specs.types.Typing.{HasType}
 use Rattle.types_parse.specs.grammar.Refusals.{IsSyntax}
 use Rattle.marshal_heap.specs.heap.Heap.{set_field}
-use Rattle.text_literal.specs.grammar.Literal.{Literal, literal_kinds}
-use Rattle.types_parse.specs.grammar.Lexemes.{kinds_of}
+use Rattle.text_literal.specs.literal_grammar.Literal.{Literal, literal_kinds}
+use Rattle.types_parse.specs.grammar.LexemeKinds.{kinds_of}
 use Rattle.text_literal.specs.parser.LiteralAnswers.{byte_of, in_bytes}
-use Rattle.text_literal.specs.parser.Reading.{Refusal, IsRead, IsRefused}
+use Rattle.text_literal.specs.parser.LiteralReading.{LiteralRefusal, IsRead, IsRefused}
 use Rattle.text_path.specs.declared.edits.Edit.{Edit}
 use Rattle.text_path.specs.declared.edits.Edit.TheVariants as edits
 use Rattle.edit_values.specs.declared.spots.Location.{Location}
 use Rattle.edit_values.specs.declared.spots.Location.TheVariants as spots
 use Rattle.edit_values.specs.declared.spots.TypedLocation.{TypedLocation}
-use Rattle.edit_values.specs.declared.refusal.EditSide.TheVariants.{Left, Right}
-use Rattle.edit_values.specs.Positions.{position_at}
+use Rattle.edit_values.specs.declared.edit_refusal.EditSide.TheVariants.{Left, Right}
+use Rattle.edit_values.specs.EditPositions.{position_at}
 use Rattle.edit_values.specs.Reasons.{Reason, no_field, not_block, no_literal, misread, ill_typed}
 
 -- An edited value, or the reason for a refusal.
-abbrev pub Answer : Type 0 → Type 0
-Answer T = Result (List Obj × Val) (Reason T)
+abbrev pub EditAnswer : Type 0 → Type 0
+EditAnswer T = Result (List Obj × Val) (Reason T)
 
 -- The value after all lines; or the index of the first line that is refused, and the reason.
 abbrev pub Edited : Type 0 → Type 0
@@ -50,19 +50,19 @@ module _ {T : Type 0} where
   -- ---- `link`: the value at the second path
 
   abbrev pub linked : List Obj → Val → Result (TypedLocation T) ℕ → Result (TypedLocation T) ℕ
-      → Answer T
+      → EditAnswer T
   linked graph root (Err step) source = Err (no_field Left step)
   linked graph root (Ok p) (Err step) = Err (no_field Right step)
   linked graph root (Ok p) (Ok source) = Ok (write_at p.spot source.value graph root)
 
   -- ---- `unshare`: a copy of the object, at the end of the graph
 
-  abbrev pub copied : List Obj → Val → Location → Option Obj → Answer T
+  abbrev pub copied : List Obj → Val → Location → Option Obj → EditAnswer T
   copied graph root spot None = Err not_block
   copied graph root spot (Some object) =
       Ok (write_at spot (vals.Ref (length graph)) (graph ++ object ∷ []) root)
 
-  abbrev pub unshared : List Obj → Val → Result (TypedLocation T) ℕ → Answer T
+  abbrev pub unshared : List Obj → Val → Result (TypedLocation T) ℕ → EditAnswer T
   unshared graph root (Err step) = Err (no_field Left step)
   unshared graph root (Ok p) = copied graph root p.spot (object_of graph p.value)
 
@@ -77,9 +77,9 @@ module _ {T : Type 0} (shape : T → ShapeOf T) (names : T → Names) where
       × IsRead shape names literal t count value objects
 
   -- The lexemes are a literal that does not have the type.
-  abbrev pub IsMisread : T → List Lexeme → ℕ → ℕ → Refusal T → Type 0
+  abbrev pub IsMisread : T → List Lexeme → ℕ → ℕ → LiteralRefusal T → Type 0
   IsMisread t lexemes end count refusal =
-      (literal : Literal) × (at : Refusal T) × (literal_kinds literal ≡ kinds_of lexemes)
+      (literal : Literal) × (at : LiteralRefusal T) × (literal_kinds literal ≡ kinds_of lexemes)
       × IsRefused shape names literal t count at
       × (refusal ≡ in_bytes lexemes end at)
 
@@ -89,7 +89,7 @@ module _ {T : Type 0} (shape : T → ShapeOf T) (names : T → Names) where
       (k : ℕ) × IsSyntax literal_kinds (kinds_of lexemes) k × (position ≡ byte_of lexemes end k)
 
   -- The result of `set` at a location.
-  abbrev pub IsSetAt : List Obj → Val → TypedLocation T → List Lexeme → ℕ → Answer T → Type 0
+  abbrev pub IsSetAt : List Obj → Val → TypedLocation T → List Lexeme → ℕ → EditAnswer T → Type 0
   IsSetAt graph root p lexemes end (Ok made) =
       (objects : List Obj) × (value : Val) × IsLiteral p.ty lexemes (length graph) objects value
       × (made ≡ write_at p.spot value (graph ++ objects) root)
@@ -98,7 +98,7 @@ module _ {T : Type 0} (shape : T → ShapeOf T) (names : T → Names) where
       IsMisread p.ty lexemes end (length graph) refusal
   IsSetAt graph root p lexemes end (Err reason) = ⊥
 
-  abbrev pub IsSet : List Obj → Val → Result (TypedLocation T) ℕ → List Lexeme → ℕ → Answer T
+  abbrev pub IsSet : List Obj → Val → Result (TypedLocation T) ℕ → List Lexeme → ℕ → EditAnswer T
       → Type 0
   IsSet graph root (Err step) lexemes end made = made ≡ Err (no_field Left step)
   IsSet graph root (Ok p) lexemes end made = IsSetAt graph root p lexemes end made
@@ -108,7 +108,7 @@ module _ {T : Type 0} (shape : T → ShapeOf T) (names : T → Names) where
     position_in graph root path = position_at (shaped shape Equal) graph root t path
 
     -- The result of an edit, without regard to whether the edited value has its type.
-    abbrev pub IsMade : Edit → List Obj → Val → Answer T → Type 0
+    abbrev pub IsMade : Edit → List Obj → Val → EditAnswer T → Type 0
     IsMade (edits.Set path lexemes end) graph root made =
         IsSet graph root (position_in graph root path) lexemes end made
     IsMade (edits.Link path source) graph root made =
@@ -131,7 +131,7 @@ module _ {T : Type 0} (shape : T → ShapeOf T) (names : T → Names) where
       pub least : IsLeastFault (shaped shape Equal) edited.0 edited.1 t fault
 
     -- The answer to an edit of a value at its type.
-    abbrev pub IsAnswer : Edit → List Obj → Val → Answer T → Type 0
+    abbrev pub IsAnswer : Edit → List Obj → Val → EditAnswer T → Type 0
     IsAnswer edit graph root (Ok edited) = IsEdited edit graph root edited
     IsAnswer edit graph root (Err (ill_typed fault)) = IsIllTyped edit graph root fault
     IsAnswer edit graph root (Err reason) = IsMade edit graph root (Err reason)

@@ -4,7 +4,7 @@ use Rattle.std.specs.Prelude.{ℕ, ◌≤◌, ◌≡◌, Ok, Some, List, length,
 use Rattle.base_data.specs.declared.model.value.Val.{Val}
 use Rattle.base_data.specs.declared.model.value.Obj.{Obj}
 use Rattle.types_spec.specs.declared.types.decl.Decl.{Decl}
-use Rattle.types_spec.specs.types.Accepted.{AreWellFormed, IsSoundType}
+use Rattle.types_spec.specs.types.WellFormed.{AreWellFormed, IsSoundType}
 use Rattle.types_spec.specs.types.Equal.{Equal, declared_shapes}
 use Rattle.types_spec.specs.types.Reached.{IsReached}
 use Rattle.types_spec.specs.types.Shape.{shape}
@@ -16,13 +16,14 @@ use Rattle.types_table.specs.declared.type_table.tabled.Tabled.{Tabled}
 use Rattle.types_table.specs.type_table.Made.{table_of, IsLawful, IsTypeTable}
 use Rattle.marshal_write.specs.graft.Copies.{IsWithin, AreWithin}
 use Rattle.edit_values.specs.declared.spots.TypedLocation.{TypedLocation}
-use Rattle.edit_values.specs.EditedValues.{Answer}
+use Rattle.edit_values.specs.EditedValues.{EditAnswer}
 use Rattle.edit_values.specs.Grafts.{Other, IsGraftAnswer, IsGraftAnswerIn}
 use Rattle.edit_values.specs.Laws.{IsAtMostOne, SayTheSame}
-use Rattle.edit_values.specs.Positions.{position_at, StandsAt}
+use Rattle.edit_values.specs.EditPositions.{position_at, StandsAt}
 
 -- The answer to a graft at a declared type.
-abbrev pub IsDeclaredGraft : List Decl → Ty → List ℕ → Other → List ℕ → List Obj → Val → Answer Ty
+abbrev pub IsDeclaredGraft : List Decl → Ty → List ℕ → Other → List ℕ → List Obj → Val
+    → EditAnswer Ty
     → Type 0
 IsDeclaredGraft decls t path other source graph root answer =
     IsGraftAnswer (shape decls) (Equal decls) t path other source graph root answer
@@ -66,6 +67,6 @@ abbrev pub TablesGraftAgree : Type 0
 TablesGraftAgree =
     (decls : List Decl) (t : Ty) (table : Tabled) → IsTypeTable decls t table
     → (path : List ℕ) (other : Other) (source : List ℕ) (graph : List Obj) (root : Val)
-    (answer : Answer ℕ) → IsGraftAnswerIn table path other source graph root answer
-    → (declared : Answer Ty) × IsDeclaredGraft decls t path other source graph root declared
+    (answer : EditAnswer ℕ) → IsGraftAnswerIn table path other source graph root answer
+    → (declared : EditAnswer Ty) × IsDeclaredGraft decls t path other source graph root declared
     × SayTheSame table answer declared

@@ -12,12 +12,12 @@ use Rattle.types_table.specs.declared.type_table.tabled.Tabled.{Tabled}
 use Rattle.text_literal.specs.parser.LiteralAnswers.{shape_in}
 use Rattle.marshal_write.specs.graft.Copies.{IsCopy}
 use Rattle.edit_values.specs.declared.spots.TypedLocation.{TypedLocation}
-use Rattle.edit_values.specs.declared.refusal.EditRefusal.{EditRefusal}
-use Rattle.edit_values.specs.declared.refusal.EditSide.TheVariants.{Left, Right}
-use Rattle.edit_values.specs.EditedValues.{Answer, write_at}
-use Rattle.edit_values.specs.Positions.{position_at}
+use Rattle.edit_values.specs.declared.edit_refusal.EditRefusal.{EditRefusal}
+use Rattle.edit_values.specs.declared.edit_refusal.EditSide.TheVariants.{Left, Right}
+use Rattle.edit_values.specs.EditedValues.{EditAnswer, write_at}
+use Rattle.edit_values.specs.EditPositions.{position_at}
 use Rattle.edit_values.specs.Reasons.{Reason, no_field, ill_typed, reason_of}
-use Rattle.edit_values.specs.Tables.{SameClass}
+use Rattle.edit_values.specs.TableEdits.{SameClass}
 
 -- The value from which a part is copied.
 abbrev pub Other : Type 0
@@ -25,7 +25,8 @@ Other = List Obj × Val
 
 module _ {T : Type 0} where
   -- A copy of the other value's part is written at a location of this value.
-  abbrev pub IsGraftAt : List Obj → Val → TypedLocation T → List Obj → TypedLocation T → Answer T
+  abbrev pub IsGraftAt : List Obj → Val → TypedLocation T → List Obj → TypedLocation T
+      → EditAnswer T
       → Type 0
   IsGraftAt graph root p from part (Ok made) =
       (copied : List Obj) × (value : Val)
@@ -37,14 +38,14 @@ module _ {T : Type 0} where
   -- nowhere, the step of the left path is reported.
   abbrev pub IsGraft : List Obj → Val → Result (TypedLocation T) ℕ → List Obj
       → Result (TypedLocation T) ℕ
-      → Answer T → Type 0
+      → EditAnswer T → Type 0
   IsGraft graph root (Err step) from part made = made ≡ Err (no_field Left step)
   IsGraft graph root (Ok p) from (Err step) made = made ≡ Err (no_field Right step)
   IsGraft graph root (Ok p) from (Ok part) made = IsGraftAt graph root p from part made
 
   module _ (shape : T → ShapeOf T) (Equal : T → T → Type 0) (t : T) where
     -- The result of a graft, without regard to whether the new value has its type.
-    abbrev pub IsGrafted : List ℕ → Other → List ℕ → List Obj → Val → Answer T → Type 0
+    abbrev pub IsGrafted : List ℕ → Other → List ℕ → List Obj → Val → EditAnswer T → Type 0
     IsGrafted path other source graph root made =
         IsGraft graph root (position_at (shaped shape Equal) graph root t path) other.0
         (position_at (shaped shape Equal) other.0 other.1 t source) made
@@ -57,7 +58,7 @@ module _ {T : Type 0} where
         × IsLeastFault (shaped shape Equal) made.0 made.1 t fault
 
     -- The answer to a graft.
-    abbrev pub IsGraftAnswer : List ℕ → Other → List ℕ → List Obj → Val → Answer T → Type 0
+    abbrev pub IsGraftAnswer : List ℕ → Other → List ℕ → List Obj → Val → EditAnswer T → Type 0
     IsGraftAnswer path other source graph root (Ok made) =
         IsGrafted path other source graph root (Ok made)
         × HasType (shaped shape Equal) made.0 made.1 t
@@ -69,7 +70,7 @@ module _ {T : Type 0} where
 -- ---- the result of a call, by the numbers of a table
 
 -- The answer to a graft at type 0 of a table.
-abbrev pub IsGraftAnswerIn : Tabled → List ℕ → Other → List ℕ → List Obj → Val → Answer ℕ
+abbrev pub IsGraftAnswerIn : Tabled → List ℕ → Other → List ℕ → List Obj → Val → EditAnswer ℕ
     → Type 0
 IsGraftAnswerIn table path other source graph root answer =
     IsGraftAnswer (shape_in table) (SameClass table) 0 path other source graph root answer

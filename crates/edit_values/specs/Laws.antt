@@ -4,7 +4,7 @@ use Rattle.std.specs.Prelude.{ℕ, ◌≡◌, Ok, Err, List}
 use Rattle.base_data.specs.declared.model.value.Val.{Val}
 use Rattle.base_data.specs.declared.model.value.Obj.{Obj}
 use Rattle.types_spec.specs.declared.types.decl.Decl.{Decl}
-use Rattle.types_spec.specs.types.Accepted.{AreWellFormed, IsSoundType}
+use Rattle.types_spec.specs.types.WellFormed.{AreWellFormed, IsSoundType}
 use Rattle.types_spec.specs.types.Equal.{Equal}
 use Rattle.types_spec.specs.types.Names.{names_of}
 use Rattle.types_spec.specs.types.Reached.{IsReached}
@@ -13,17 +13,17 @@ use Rattle.types_spec.specs.types.Ty.{Ty}
 use Rattle.types_spec.specs.types.TypeText.{type_text}
 use Rattle.types_table.specs.declared.type_table.tabled.Tabled.{Tabled}
 use Rattle.types_table.specs.type_table.Made.{table_of, IsLawful, IsTypeTable}
-use Rattle.check_fault.specs.Text.{text_at}
+use Rattle.check_fault.specs.FaultText.{text_at}
 use Rattle.text_path.specs.declared.edits.Edit.{Edit}
 use Rattle.text_path.specs.declared.edits.ScriptLine.{ScriptLine}
 use Rattle.edit_values.specs.EditedLines.{AreEdited}
-use Rattle.edit_values.specs.EditedValues.{Answer, Edited, IsAnswer}
+use Rattle.edit_values.specs.EditedValues.{EditAnswer, Edited, IsAnswer}
 use Rattle.edit_values.specs.Grafts.{Other}
 use Rattle.edit_values.specs.Reasons.{reason_text}
-use Rattle.edit_values.specs.Tables.{IsAnswerIn}
+use Rattle.edit_values.specs.TableEdits.{IsAnswerIn}
 
 -- The answer to an edit of a value at a declared type.
-abbrev pub IsDeclaredAnswer : List Decl → Ty → Edit → List Obj → Val → Answer Ty → Type 0
+abbrev pub IsDeclaredAnswer : List Decl → Ty → Edit → List Obj → Val → EditAnswer Ty → Type 0
 IsDeclaredAnswer decls t edit graph root answer =
     IsAnswer (shape decls) (names_of decls) (Equal decls) t edit graph root answer
 
@@ -53,7 +53,7 @@ pub record EditsHaveOneAnswer : Type 0 where
       → IsAtMostOne (AreDeclaredEdits decls t others lines graph root)
 
 -- The answers are one value, or are reasons with one text for every form of printing positions.
-abbrev pub SayTheSame : Tabled → Answer ℕ → Answer Ty → Type 0
+abbrev pub SayTheSame : Tabled → EditAnswer ℕ → EditAnswer Ty → Type 0
 SayTheSame table (Ok edited) (Ok other) = edited ≡ other
 SayTheSame table (Err reason) (Err other) =
     (known : ℕ → List ℕ)
@@ -65,7 +65,7 @@ SayTheSame table (Err reason) (Ok other) = ⊥
 abbrev pub TablesEditAgree : Type 0
 TablesEditAgree =
     (decls : List Decl) (t : Ty) (table : Tabled) → IsTypeTable decls t table
-    → (edit : Edit) (graph : List Obj) (root : Val) (answer : Answer ℕ)
+    → (edit : Edit) (graph : List Obj) (root : Val) (answer : EditAnswer ℕ)
     → IsAnswerIn table edit graph root answer
-    → (other : Answer Ty) × IsDeclaredAnswer decls t edit graph root other
+    → (other : EditAnswer Ty) × IsDeclaredAnswer decls t edit graph root other
     × SayTheSame table answer other

@@ -1,7 +1,7 @@
 pub mod Reasons
-pub mod Positions
+pub mod EditPositions
 pub mod EditedValues
-pub mod Tables
+pub mod TableEdits
 pub mod Laws
 pub mod Grafts
 pub mod EditedLines

@@ -12,22 +12,22 @@ use Rattle.types_table.specs.declared.type_table.tabled.Tabled.{Tabled}
 use Rattle.types_table.specs.type_table.Made.{IsTypeTable}
 use Rattle.text_literal.specs.parser.LiteralAnswers.{shape_in, names_in}
 use Rattle.text_path.specs.declared.edits.Action.{Action}
-use Rattle.edit_values.specs.declared.refusal.EditRefusal.{EditRefusal}
+use Rattle.edit_values.specs.declared.edit_refusal.EditRefusal.{EditRefusal}
 use Rattle.edit_values.specs.EditedLines.{IsLineAnswer}
-use Rattle.edit_values.specs.EditedValues.{Answer}
+use Rattle.edit_values.specs.EditedValues.{EditAnswer}
 use Rattle.edit_values.specs.Grafts.{Other}
 use Rattle.edit_values.specs.Laws.{SayTheSame}
 use Rattle.edit_values.specs.Reasons.{Reason, reason_of}
-use Rattle.edit_values.specs.Tables.{SameClass}
+use Rattle.edit_values.specs.TableEdits.{SameClass}
 
 -- The answer to a line for a value at a declared type. `others` are the earlier values.
-abbrev pub IsDeclaredLine : List Decl → Ty → List Other → Action → List Obj → Val → Answer Ty
+abbrev pub IsDeclaredLine : List Decl → Ty → List Other → Action → List Obj → Val → EditAnswer Ty
     → Type 0
 IsDeclaredLine decls t others action graph root answer =
     IsLineAnswer (shape decls) (names_of decls) (Equal decls) t others action graph root answer
 
 -- The answer to a line at type 0 of a table.
-abbrev pub IsLineAnswerIn : Tabled → List Other → Action → List Obj → Val → Answer ℕ → Type 0
+abbrev pub IsLineAnswerIn : Tabled → List Other → Action → List Obj → Val → EditAnswer ℕ → Type 0
 IsLineAnswerIn table others action graph root answer =
     IsLineAnswer (shape_in table) (names_in table) (SameClass table) 0 others action graph root
     answer
@@ -52,7 +52,8 @@ IsLineApplied table others action old old_root new new_root (Err refusal) =
 abbrev pub TablesAnswerLinesAgree : Type 0
 TablesAnswerLinesAgree =
     (decls : List Decl) (t : Ty) (table : Tabled) → IsTypeTable decls t table
-    → (others : List Other) (action : Action) (graph : List Obj) (root : Val) (answer : Answer ℕ)
+    → (others : List Other) (action : Action) (graph : List Obj) (root : Val)
+    (answer : EditAnswer ℕ)
     → IsLineAnswerIn table others action graph root answer
-    → (declared : Answer Ty) × IsDeclaredLine decls t others action graph root declared
+    → (declared : EditAnswer Ty) × IsDeclaredLine decls t others action graph root declared
     × SayTheSame table answer declared

@@ -4,13 +4,14 @@ use Rattle.std.specs.Prelude.{ℕ, Option, Some, None, List, [], ◌++◌, codes
 use Rattle.base_data.specs.model.PathText.{path_text}
 use Rattle.types_spec.specs.declared.types.fault.Fault.{Fault}
 use Rattle.types_spec.specs.declared.types.fault.Fault.TheVariants.{Mismatch, Conflict}
-use Rattle.text_literal.specs.declared.parser.fault.LiteralFault.{LiteralFault}
-use Rattle.text_literal.specs.declared.parser.fault.LiteralFault.TheVariants as literals
-use Rattle.text_literal.specs.parser.Reading.{Refusal, mismatch_at, int_range_at, label_at}
-use Rattle.edit_values.specs.declared.refusal.EditSide.{EditSide}
-use Rattle.edit_values.specs.declared.refusal.EditSide.TheVariants.{Left, Right}
-use Rattle.edit_values.specs.declared.refusal.EditRefusal.{EditRefusal}
-use Rattle.edit_values.specs.declared.refusal.EditRefusal.TheVariants as refusals
+use Rattle.text_literal.specs.declared.parser.literal_fault.LiteralFault.{LiteralFault}
+use Rattle.text_literal.specs.declared.parser.literal_fault.LiteralFault.TheVariants as literals
+use Rattle.text_literal.specs.parser.LiteralReading.{LiteralRefusal, mismatch_at, int_range_at}
+use Rattle.text_literal.specs.parser.LiteralReading.{label_at}
+use Rattle.edit_values.specs.declared.edit_refusal.EditSide.{EditSide}
+use Rattle.edit_values.specs.declared.edit_refusal.EditSide.TheVariants.{Left, Right}
+use Rattle.edit_values.specs.declared.edit_refusal.EditRefusal.{EditRefusal}
+use Rattle.edit_values.specs.declared.edit_refusal.EditRefusal.TheVariants as refusals
 
 pub data Reason (T : Type 0) : Type 0 where
   -- The path of this side has a step whose field is not required. The step's index counts from 0.
@@ -20,7 +21,7 @@ pub data Reason (T : Type 0) : Type 0 where
   -- The lexemes are not a literal, because of the lexeme at this byte.
   no_literal : ℕ → Reason T
   -- The literal does not have its type, for this reason at a byte.
-  misread : Refusal T → Reason T
+  misread : LiteralRefusal T → Reason T
   -- The edited value does not have its type. `Fault` is the first fault of the edited value.
   ill_typed : Fault → Reason T
 

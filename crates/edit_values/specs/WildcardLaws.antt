@@ -14,7 +14,7 @@ use Rattle.types_spec.specs.types.Ty.{Ty}
 use Rattle.text_path.specs.declared.edits.Action.{Action}
 use Rattle.text_path.specs.declared.edits.ScriptLine.{ScriptLine}
 use Rattle.edit_values.specs.EditedLines.{IsLineAnswer}
-use Rattle.edit_values.specs.EditedValues.{Answer}
+use Rattle.edit_values.specs.EditedValues.{EditAnswer}
 use Rattle.edit_values.specs.Grafts.{Other}
 use Rattle.edit_values.specs.Laws.{AreDeclaredEdits}
 
@@ -25,7 +25,7 @@ IsUnreached {T} shapes graph o v t =
 
 -- The answer to the action of a line, for a value of a declared type. `others` are the earlier
 -- values.
-abbrev pub IsDeclaredLine : List Decl → Ty → List Other → Action → List Obj → Val → Answer Ty
+abbrev pub IsDeclaredLine : List Decl → Ty → List Other → Action → List Obj → Val → EditAnswer Ty
     → Type 0
 IsDeclaredLine decls t others action graph root answer =
     IsLineAnswer (shape decls) (names_of decls) (Equal decls) t others action graph root answer

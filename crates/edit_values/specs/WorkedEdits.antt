@@ -11,13 +11,13 @@ use Rattle.types_spec.specs.types.Equal.{Equal}
 use Rattle.types_spec.specs.types.Names.{names_of}
 use Rattle.types_spec.specs.types.Shape.{shape}
 use Rattle.types_spec.specs.types.Ty.{Ty, named}
-use Rattle.text_literal.specs.grammar.WorkedTrees.{symbol as mark}
-use Rattle.text_literal.specs.parser.Reading.{mismatch_at, int_range_at}
+use Rattle.text_literal.specs.literal_grammar.WorkedTrees.{symbol as mark}
+use Rattle.text_literal.specs.parser.LiteralReading.{mismatch_at, int_range_at}
 use Rattle.text_literal.specs.parser.WorkedLiterals.{int, one, pair, number, lexemes_of}
 use Rattle.text_path.specs.declared.edits.Edit.{Edit}
 use Rattle.text_path.specs.declared.edits.Edit.TheVariants.{Set, Link, Unshare}
-use Rattle.edit_values.specs.declared.refusal.EditSide.TheVariants.{Left, Right}
-use Rattle.edit_values.specs.EditedValues.{Answer, IsMade}
+use Rattle.edit_values.specs.declared.edit_refusal.EditSide.TheVariants.{Left, Right}
+use Rattle.edit_values.specs.EditedValues.{EditAnswer, IsMade}
 use Rattle.edit_values.specs.Reasons.{no_field, not_block, misread}
 
 abbrev pub string : Ty
@@ -30,7 +30,7 @@ abbrev pub options : Ty
 options = pair (one (codes "option") int) (one (codes "option") (named (codes "bool")))
 
 -- The result of an edit without declarations. The root is object 0.
-abbrev pub Makes : Ty → List Obj → Edit → Answer Ty → Type 0
+abbrev pub Makes : Ty → List Obj → Edit → EditAnswer Ty → Type 0
 Makes t graph edit made = IsMade (shape []) (names_of []) (Equal []) t edit graph (Ref 0) made
 
 -- The list of the items 1 and 2.
@@ -44,7 +44,7 @@ shared_pair = Block 0 (Ref 1 ∷ Ref 1 ∷ []) ∷ Block 0 (Int (pos 0) ∷ []) 
 abbrev pub a_string : List Obj
 a_string = Bytes (codes "abc") ∷ []
 
-pub record Rows : Type 0 where
+pub record WorkedEditRows : Type 0 where
   -- The edit `0 set .1 = ::(7, [])`. The new object is the last object.
   pub new_rest : Makes int_list two_items
       (Set (1 ∷ [])

@@ -6,11 +6,11 @@ ghost use Rattle.base_data.specs.declared.model.value.Obj.{Obj};
 ghost use Rattle.base_data.specs.model.Graph.{IsValue, IsGraph};
 ghost use Rattle.text_path.specs.declared.edits.Edit.TheVariants as edits;
 ghost use Rattle.edit_values.specs.Reasons.{Reason};
-ghost use Rattle.edit_values.specs.Positions.{StandsAt, IsThere};
-ghost use Rattle.edit_values.specs.Tables.{IsAnswerIn, IsApplied, IsKept, Gives};
+ghost use Rattle.edit_values.specs.EditPositions.{StandsAt, IsThere};
+ghost use Rattle.edit_values.specs.TableEdits.{IsAnswerIn, IsApplied, IsKept, Gives};
 ghost use Rattle.edit_values.specs.EditedValues.{write_at};
 
-use crate::refusal::{EditRefusal, EditSide};
+use crate::edit_refusal::{EditRefusal, EditSide};
 use crate::spots::{Location, TypedLocation, find_position};
 use base_data::model::path::Path;
 use base_data::model::value::Val;

@@ -9,12 +9,12 @@ ghost use Rattle.types_table.specs.type_table.Made.{table_of};
 ghost use Rattle.edit_values.specs.declared.spots.TypedLocation.{TypedLocation};
 ghost use Rattle.edit_values.specs.Grafts.{IsGraftAnswerIn, IsGraftApplied};
 ghost use Rattle.edit_values.specs.GraftLaws.{HasGraft};
-ghost use Rattle.edit_values.specs.Positions.{position_at};
+ghost use Rattle.edit_values.specs.EditPositions.{position_at};
 ghost use Rattle.edit_values.specs.Reasons.{Reason};
-ghost use Rattle.edit_values.specs.Tables.{Gives};
+ghost use Rattle.edit_values.specs.TableEdits.{Gives};
 
 use crate::edit::write_if_typed;
-use crate::refusal::{EditRefusal, EditSide};
+use crate::edit_refusal::{EditRefusal, EditSide};
 use crate::spots::find_position;
 use base_data::model::path::Path;
 use base_data::model::value::Val;

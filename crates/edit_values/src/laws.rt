@@ -5,7 +5,7 @@ ghost use Rattle.edit_values.specs.GraftLaws.{TablesGraftAgree};
 ghost use Rattle.edit_values.specs.WildcardLaws.{EditsLeaveWildcards};
 ghost use Rattle.edit_values.specs.Laws.{EditsHaveOneAnswer, TablesEditAgree};
 ghost use Rattle.edit_values.specs.LineLaws.{TablesAnswerLinesAgree};
-ghost use Rattle.edit_values.specs.WorkedEdits.{Rows};
+ghost use Rattle.edit_values.specs.WorkedEdits.{WorkedEditRows};
 
 /// Each edit of a value has at most one answer.
 pub fn edits_have_one_answer()
@@ -19,7 +19,7 @@ pub fn tables_edit_agree()
 
 /// Worked edits have the expected results, or the expected reasons for a refusal.
 pub fn worked_edits_are_made()
-    ensures { Rows }
+    ensures { WorkedEditRows }
 {}
 
 /// A graft writes a value that is isomorphic to the copied part and consists of new objects. The

@@ -25,18 +25,18 @@
 #![tactic(auto)]
 
 mod edit;
+mod edit_refusal;
 mod grafting;
 mod laws;
-mod refusal;
+mod refusal_printer;
 mod spots;
-mod text;
 
 pub use edit::apply;
+pub use edit_refusal::{EditRefusal, EditSide};
 pub use grafting::graft;
 pub use laws::{
     edits_have_one_answer, edits_leave_wildcards, grafts_are_the_same, grafts_have_one_answer,
     tables_answer_lines_agree, tables_edit_agree, tables_graft_agree, worked_edits_are_made,
 };
-pub use refusal::{EditRefusal, EditSide};
+pub use refusal_printer::{literal_text, refusal_text};
 pub use spots::{Location, TypedLocation};
-pub use text::{literal_text, refusal_text};

@@ -4,9 +4,9 @@ ghost use Rattle.std.specs.Prelude.{◌≡◌, ◌<◌, length, IfOk};
 ghost use Rattle.base_data.specs.model.Graph.{IsValue};
 ghost use Rattle.types_spec.specs.types.Table.{table_shapes};
 ghost use Rattle.types_table.specs.type_table.Made.{table_of};
-ghost use Rattle.edit_values.specs.Positions.{position_at, spot_after, on_side, StandsAt};
+ghost use Rattle.edit_values.specs.EditPositions.{position_at, spot_after, on_side, StandsAt};
 
-use crate::refusal::{EditRefusal, EditSide};
+use crate::edit_refusal::{EditRefusal, EditSide};
 use base_data::model::path::Path;
 use base_data::model::value::Val;
 use check_fault::{Tried, step};

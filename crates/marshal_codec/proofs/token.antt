@@ -1,6 +1,6 @@
-pub mod NumberLemmas
+pub mod TokenNumberLemmas
 pub mod ResultLemmas
 pub mod SummaryLemmas
-pub mod FaultLemmas
+pub mod TokenFaultLemmas
 pub mod CompleteLemmas
-pub mod PartLemmas
+pub mod TokenPartLemmas

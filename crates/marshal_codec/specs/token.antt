@@ -1,4 +1,4 @@
 pub mod Summary
-pub mod Fault
-pub mod Step
-pub mod Complete
+pub mod TokenFault
+pub mod TokenStep
+pub mod RemainingSteps

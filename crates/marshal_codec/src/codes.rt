@@ -2,13 +2,13 @@
 //! byte. `encode_int`, `encode_block` and similar functions encode tokens as OCaml's runtime writes
 //! them (`extern.c`).
 
-mod encode;
-mod kind;
+mod code_encoding;
+mod kind_of_code;
 mod known_kind;
 
 pub use base_data::model::code::{CodeFault, CodeKind};
-pub use encode::{
+pub use code_encoding::{
     encode_block, encode_double_array_len, encode_int, encode_shared, encode_string_len,
 };
-pub use kind::code_kind;
+pub use kind_of_code::code_kind;
 pub use known_kind::KnownKind;

@@ -2,11 +2,11 @@
 //! identifier, and `read_native` decodes the data of a `Nativeint`. `encode` encodes a custom block
 //! as the runtime writes it.
 
-mod encoding;
+mod custom_encoding;
 mod identifier;
 mod native;
 
 pub use base_data::model::code::{Custom, CustomKind};
-pub use encoding::encode;
+pub use custom_encoding::encode;
 pub use identifier::ident;
 pub use native::{NativeStep, read_native};

@@ -1,10 +1,10 @@
-pub mod FieldLemmas
+pub mod HeapFieldLemmas
 pub mod HeapLemmas
-pub mod WriteLemmas
-pub mod PositionLemmas
-pub mod ReadLemmas
+pub mod HeapWriteLemmas
+pub mod HeapPositionLemmas
+pub mod HeapReadLemmas
 mod WordLemmas
-pub mod StringLemmas
+pub mod HeapStringLemmas
 mod CodeLemmas
 mod StoredLemmas
 mod NewLemmas

@@ -1,4 +1,4 @@
-pub mod FieldLemmas
+pub mod IsomorphismFieldLemmas
 pub mod IndexLemmas
 pub mod MeetingLemmas
 pub mod SoFarLemmas

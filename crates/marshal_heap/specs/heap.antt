@@ -1,4 +1,4 @@
 pub mod Heap
 pub mod Borrowed
 pub mod Stored
-pub mod Words
+pub mod ObjectWords

@@ -6,9 +6,9 @@
 mod borrowed;
 mod heap;
 mod kind;
+mod object_words;
 mod objects;
 mod strings;
-mod words;
 
 pub use borrowed::{NumberedObject, Rooted};
 pub use heap::Heap;

@@ -3,7 +3,7 @@
 //! sharing and cycles: a shared object never agrees with two copies.
 
 mod compare;
-mod content;
 mod pairing;
+mod same_contents;
 
 pub use compare::same;

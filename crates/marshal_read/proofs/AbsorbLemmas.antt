@@ -4,7 +4,7 @@ use Rattle.base_data.specs.declared.model.value.Val.{Val}
 use Rattle.base_data.specs.declared.model.value.Val.TheVariants as vals
 use Rattle.base_data.specs.declared.model.value.Obj.{Obj}
 use Rattle.marshal_spec.specs.format.Token.{Token, integer, atom, shared, block_or_atom, IsToken}
-use Rattle.marshal_read.specs.declared.build.PendingBlock.{PendingBlock}
+use Rattle.marshal_read.specs.declared.graph_builder.PendingBlock.{PendingBlock}
 use Rattle.marshal_read.specs.Build.{Building, Bounded, building, in_room, fill, fill_in, absorb_in, WellOpen}
 use Rattle.marshal_read.proofs.BuildLemmas.{AreOpen-append, WellOpen-fill, WellOpen-absorb}
 

@@ -12,12 +12,12 @@ use Rattle.marshal_spec.specs.format.Words.{objects}
 use Rattle.marshal_spec.specs.format.Token.{Token, integer, atom, shared, block, leaf, IsToken, measure_of}
 use Rattle.marshal_spec.specs.format.Tree.{made_by, value_of}
 use Rattle.marshal_read.specs.Build.{Building, building, start, still_open, advanced, fill, blank, blank_fields, opened, absorb, absorb_all, root_to_come, fields_to_come, to_come, HasSize, IsOpenIn, AreOpen, WellOpen}
-use Rattle.marshal_read.specs.declared.build.PendingBlock.{PendingBlock}
+use Rattle.marshal_read.specs.declared.graph_builder.PendingBlock.{PendingBlock}
 use Rattle.marshal_heap.specs.heap.Heap.{with_field, set_field, word_of}
-use Rattle.marshal_heap.proofs.heap.ReadLemmas.{word_of-append, word_of-set_field}
-use Rattle.marshal_heap.proofs.heap.FieldLemmas.{length-set_field, set_field-append}
+use Rattle.marshal_heap.proofs.heap.HeapReadLemmas.{word_of-append, word_of-set_field}
+use Rattle.marshal_heap.proofs.heap.HeapFieldLemmas.{length-set_field, set_field-append}
 use Rattle.marshal_spec.proofs.format.Counts.{length-object_of, objects-tokens-cons}
-use Rattle.marshal_read.proofs.FieldLemmas.{still_open_below, still_open_full}
+use Rattle.marshal_read.proofs.ReaderFieldLemmas.{still_open_below, still_open_full}
 
 -- ---- open blocks stay open
 

@@ -14,21 +14,21 @@ use Rattle.marshal_spec.specs.format.Step.{Context, token_steps}
 use Rattle.marshal_spec.specs.format.Prefix.{with_next, token_refusal, InHeader, IsRefused}
 use Rattle.marshal_spec.proofs.format.RawLemmas.{raw_length-take}
 use Rattle.marshal_spec.proofs.format.TokenStepLemmas.{header_length-from, header_length-take}
-use Rattle.marshal_spec.proofs.format.ReadingLemmas.{concat-push, TokensPass-push}
-use Rattle.marshal_spec.proofs.format.NextLemmas.{next_passes, next_refused, header_refused, header_is_refused, header_goes_on, header_passes}
-use Rattle.marshal_spec.proofs.format.StandLemmas.{Stands, Stands-refused}
+use Rattle.marshal_spec.proofs.format.FormatReadingLemmas.{concat-push, TokensPass-push}
+use Rattle.marshal_spec.proofs.format.FormatNextLemmas.{next_passes, next_refused, header_refused, header_is_refused, header_goes_on, header_passes}
+use Rattle.marshal_spec.proofs.format.FormatStandLemmas.{Stands, Stands-refused}
 use Rattle.marshal_read.specs.declared.unread.Unread.{Unread}
 use Rattle.marshal_read.specs.declared.unread.Unread.TheVariants.{NeedMore, Refused}
 use Rattle.marshal_read.specs.declared.read_totals.ReadTotals.{ReadTotals}
 use Rattle.marshal_read.specs.declared.reading.Reading.{Reading}
-use Rattle.marshal_read.specs.Head.{JudgedHeader}
+use Rattle.marshal_read.specs.JudgedHeader.{JudgedHeader}
 use Rattle.marshal_read.specs.Build.{Bounded, start, in_room}
-use Rattle.marshal_read.specs.Reading.{Builds, NextOf, UnlessMemory, RefusedIn}
+use Rattle.marshal_read.specs.Reading.{BuildsGraph, NextOf, UnlessMemory, RefusedIn}
 use Rattle.marshal_read.specs.declared.chunks.Chunks.{Chunks}
 use Rattle.marshal_read.specs.Chunks.{LeadsTokens, LeadsAs, LeadsChunks, IsWhole, NextRead}
-use Rattle.marshal_read.proofs.HeadLemmas.{first_undecided}
-use Rattle.marshal_read.proofs.NextLemmas.{context_after}
-use Rattle.marshal_read.proofs.ReadingLemmas.{unless_memory, refusal_is_read}
+use Rattle.marshal_read.proofs.ReaderHeadLemmas.{first_undecided}
+use Rattle.marshal_read.proofs.ReaderNextLemmas.{context_after}
+use Rattle.marshal_read.proofs.ReaderReadingLemmas.{unless_memory, refusal_is_read}
 
 -- ---- a part and more bytes
 
@@ -116,7 +116,7 @@ module _ (limit : ℕ) (taken part more : List ℕ) (state : Bounded) (h : Leads
             header_passes = header_passes limit (part ++ more) j.0 j.1;
             tokens_pass = tt;
             builds =
-                subst (Builds header [] totals) (sym room)
+                subst (BuildsGraph header [] totals) (sym room)
                 (record { tokens = []; sums = j.2; encodes = tt; are_tokens = All-nil IsToken; builds = refl; room = refl });
             is_part = omega arith;
             passes = nothing_refused header [];
@@ -152,7 +152,7 @@ module _ (limit : ℕ) (taken part more header : List ℕ) (before : List (List 
           bytes_are = all_are;
           header_passes = h.header_passes;
           tokens_pass = h.tokens_pass;
-          builds = subst (Builds header before totals) (sym (b refl)) h.builds;
+          builds = subst (BuildsGraph header before totals) (sym (b refl)) h.builds;
           is_part = n.1;
           passes = n.0;
           ends = λ e. absurd (omega (arith, e));

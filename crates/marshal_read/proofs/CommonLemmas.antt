@@ -12,18 +12,18 @@ use Rattle.marshal_spec.specs.format.Prefix.{context}
 use Rattle.marshal_read.specs.declared.read_totals.ReadTotals.{ReadTotals}
 use Rattle.marshal_read.specs.Totals.{AreTotals, PassesTo, Advances, context_of, moved, IsPlain}
 use Rattle.marshal_read.specs.Build.{Bounded, Fits, absorb_in}
-use Rattle.marshal_read.specs.Reading.{Builds, TakesOne}
+use Rattle.marshal_read.specs.Reading.{BuildsGraph, TakesOne}
 use Rattle.marshal_read.specs.Chunks.{LeadsAs, TakesCommon}
 use Rattle.marshal_read.proofs.TotalsLemmas.{next_there}
-use Rattle.marshal_read.proofs.StepLemmas.{bytes_length}
+use Rattle.marshal_read.proofs.ReaderStepLemmas.{bytes_length}
 use Rattle.marshal_read.proofs.PassingLemmas.{passes_next}
-use Rattle.marshal_read.proofs.NextLemmas.{words_built, next_leads, next_encoded}
+use Rattle.marshal_read.proofs.ReaderNextLemmas.{words_built, next_leads, next_encoded}
 use Rattle.marshal_spec.proofs.format.EncodeValues.{IsToken-encoded}
 use Rattle.marshal_read.specs.Contents.{EncodesTokenAfter}
 use Rattle.marshal_read.proofs.ChunksLemmas.{token_is_read, length_rest, taken_on}
 
 -- If the totals advance by a token, then there is room for the token's object.
-pub advance_fits : (header : List ℕ) (before : List (List ℕ)) (position next : ReadTotals) (state : Bounded) (n : ℕ) (measure : Option Measure) → Builds header before position state
+pub advance_fits : (header : List ℕ) (before : List (List ℕ)) (position next : ReadTotals) (state : Bounded) (n : ℕ) (measure : Option Measure) → BuildsGraph header before position state
     → AreTotals next (moved (context_of position) n measure) → Fits state measure
 advance_fits header before position next state n measure h m =
     let words = words_built header before position state h in
@@ -41,7 +41,7 @@ encoded_after (code ∷ rest) kind t some k s =
     let whole : Encodes t (code ∷ take n rest) = subst (λ (m : ℕ). Encodes t (take m (code ∷ rest))) len s in
     subst (λ r. EncodesFrom r (take n rest) t) k whole.1
 
-module _ (header : List ℕ) (before : List (List ℕ)) (position next : ReadTotals) (state state' : Bounded) (bytes : List ℕ) (valid : AreBytes bytes) (some : 0 < length bytes) (is_open : 0 < position.pending) (h : Builds header before position state) where
+module _ (header : List ℕ) (before : List (List ℕ)) (position next : ReadTotals) (state state' : Bounded) (bytes : List ℕ) (valid : AreBytes bytes) (some : 0 < length bytes) (is_open : 0 < position.pending) (h : BuildsGraph header before position state) where
   -- If a token of a common kind passes, then reading the token leads to the next state.
   pub common_taken : (kind : CodeKind) (n : ℕ) → n ≡ 1 + fixed_bytes kind + variable_bytes kind (drop 1 bytes) → kind_of (get_or bytes 0 0) ≡ Ok kind → PassesTo position (get_or bytes 0 0) kind (drop 1 bytes) next
       → ((t : Token) → EncodesAfter kind (take (fixed_bytes kind + variable_bytes kind (drop 1 bytes)) (drop 1 bytes)) t → state' ≡ absorb_in state t)

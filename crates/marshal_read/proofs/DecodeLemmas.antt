@@ -12,23 +12,23 @@ use Rattle.marshal_spec.specs.format.Raw.{fixed_bytes, field_bytes, sizing_bytes
 use Rattle.marshal_spec.specs.format.Words.{one_more, of_object, fields, words32, words64}
 use Rattle.marshal_spec.specs.format.Step.{Context, Step, position, overlong, words32_refusal, words64_refusal, end_steps, closing_steps, entry_steps, field_refusal, first_refusal, token_steps}
 use Rattle.marshal_spec.specs.format.Token.{Encodes}
-use Rattle.marshal_spec.proofs.format.StepLemmas.{EndWithin, first_refusal-more}
+use Rattle.marshal_spec.proofs.format.FormatStepLemmas.{EndWithin, first_refusal-more}
 use Rattle.marshal_spec.proofs.format.TokenStepLemmas.{token_steps-take}
 use Rattle.marshal_codec.specs.headers.Counting.{IsCountable}
 use Rattle.marshal_codec.specs.declared.token.summary.Summary.{Summary}
 use Rattle.marshal_codec.specs.declared.token.summary.Summary.TheVariants as summaries
-use Rattle.marshal_codec.specs.declared.token.fault.TokenFault.{TokenFault}
+use Rattle.marshal_codec.specs.declared.token.token_fault.TokenFault.{TokenFault}
 use Rattle.marshal_codec.specs.token.Summary.{IsSummaryBy, HasFewFields, IsFair, custom_measure, summary_measure}
-use Rattle.marshal_codec.specs.token.Fault.{refusal_of, IsFaultBy}
-use Rattle.marshal_codec.specs.token.Complete.{closing, remaining_steps}
+use Rattle.marshal_codec.specs.token.TokenFault.{refusal_of, IsFaultBy}
+use Rattle.marshal_codec.specs.token.RemainingSteps.{closing, remaining_steps}
 use Rattle.marshal_codec.proofs.token.CompleteLemmas.{complete_length, complete_measure, complete_steps}
 use Rattle.marshal_read.specs.declared.unread.Unread.{Unread}
 use Rattle.marshal_read.specs.declared.unread.Unread.TheVariants.{NeedMore, Refused}
 use Rattle.marshal_read.specs.declared.read_totals.ReadTotals.{ReadTotals}
 use Rattle.marshal_read.specs.Totals.{AreTotals, AreFew, IsNext, IsSized, moved}
 use Rattle.marshal_read.specs.Progress.{Progress, passed, and_then, once, progress, answered}
-use Rattle.marshal_read.proofs.SizeLemmas.{raw_few32, raw_few64, raw_small}
-use Rattle.marshal_read.proofs.StepLemmas.{Reports, progress-reports, waiting_short}
+use Rattle.marshal_read.proofs.ReaderSizeLemmas.{raw_few32, raw_few64, raw_small}
+use Rattle.marshal_read.proofs.ReaderStepLemmas.{Reports, progress-reports, waiting_short}
 
 -- ---- the steps of a part of a token
 

@@ -12,7 +12,7 @@ use Rattle.marshal_spec.proofs.format.EncodeFacts.{VariableFits, TokenFacts, tok
 use Rattle.marshal_spec.proofs.format.TokenStepLemmas.{token_steps-ok}
 use Rattle.marshal_read.specs.declared.read_totals.ReadTotals.{ReadTotals}
 use Rattle.marshal_read.specs.Totals.{AreTotals, IsNext, PassesTo, context_of, IsPlain}
-use Rattle.marshal_read.proofs.StepLemmas.{bytes_length, bytes_after}
+use Rattle.marshal_read.proofs.ReaderStepLemmas.{bytes_length, bytes_after}
 
 -- If a token ends within the data, then the token's variable bytes fit.
 variable_fits : (c : Context) (kind : CodeKind) (custom : Option CustomKind) (rest : List ℕ) → IsPlain kind → c.taken + token_length kind rest ≤ c.head.length → VariableFits c kind custom rest

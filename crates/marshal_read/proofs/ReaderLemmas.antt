@@ -17,14 +17,14 @@ use Rattle.marshal_heap.specs.heap.Heap.{heap_words}
 use Rattle.marshal_read.specs.declared.read_totals.ReadTotals.{ReadTotals}
 use Rattle.marshal_read.specs.declared.chunks.Chunks.{Chunks}
 use Rattle.marshal_read.specs.declared.reader.Reader.{Reader}
-use Rattle.marshal_read.specs.declared.value.Value.{Value}
+use Rattle.marshal_read.specs.declared.returned_value.Value.{Value}
 use Rattle.marshal_read.specs.Build.{Building, Bounded, building, start, absorb_all}
 use Rattle.marshal_read.specs.Chunks.{LeadsTokens, LeadsAs, LeadsChunks, IsWhole, TakesChunk}
 use Rattle.marshal_read.specs.Reader.{Feeds, IsWithin, Finishes}
-use Rattle.marshal_spec.proofs.format.RootLemmas.{root_is_value}
-use Rattle.marshal_read.proofs.TreeLemmas.{absorb_start}
-use Rattle.marshal_read.proofs.RoomLemmas.{encoded_words}
-use Rattle.marshal_read.proofs.NextLemmas.{words_built}
+use Rattle.marshal_spec.proofs.format.FormatRootLemmas.{root_is_value}
+use Rattle.marshal_read.proofs.ReaderTreeLemmas.{absorb_start}
+use Rattle.marshal_read.proofs.ReaderRoomLemmas.{encoded_words}
+use Rattle.marshal_read.proofs.ReaderNextLemmas.{words_built}
 use Rattle.marshal_read.proofs.ChunksLemmas.{open_from}
 
 -- ---- a whole value

@@ -12,7 +12,7 @@ use Rattle.marshal_spec.specs.format.Words.{of_object, fields, words64}
 use Rattle.marshal_spec.specs.format.Token.{Token, integer, atom, shared, block, leaf, measure_of}
 use Rattle.marshal_spec.specs.format.Tree.{value_of, object_of}
 use Rattle.marshal_heap.specs.heap.Heap.{set_field, heap_words, word_of}
-use Rattle.marshal_read.specs.declared.build.PendingBlock.{PendingBlock}
+use Rattle.marshal_read.specs.declared.graph_builder.PendingBlock.{PendingBlock}
 
 -- ---- the graph under construction
 

@@ -12,7 +12,7 @@ use Rattle.marshal_read.specs.declared.read_totals.ReadTotals.{ReadTotals}
 use Rattle.marshal_read.specs.declared.reading.Reading.{Reading}
 use Rattle.marshal_read.specs.declared.chunks.Chunks.{Chunks}
 use Rattle.marshal_read.specs.Build.{Bounded, start}
-use Rattle.marshal_read.specs.Reading.{Builds, RefusedIn}
+use Rattle.marshal_read.specs.Reading.{BuildsGraph, RefusedIn}
 
 -- The header and the tokens `before` pass, `totals` are the sums of the tokens, and `state` is the
 -- graph that the tokens build. The bytes `part` are a part of the next token and pass every step
@@ -22,7 +22,7 @@ pub record LeadsTokens (limit : ℕ) (taken header : List ℕ) (before : List (L
   pub bytes_are : taken ≡ header ++ (concat before ++ part)
   pub header_passes : HeaderPasses limit header
   pub tokens_pass : TokensPass header [] before
-  pub builds : Builds header before totals state
+  pub builds : BuildsGraph header before totals state
   pub is_part : IsPart part
   pub passes : token_refusal header before part ≡ None
   pub ends : totals.pending ≡ 0 → part ≡ []

@@ -1,7 +1,7 @@
 pub mod Totals
 pub mod Progress
 pub mod Build
-pub mod Head
+pub mod JudgedHeader
 pub mod Left
 pub mod Reading
 pub mod Contents

@@ -12,7 +12,7 @@ use Rattle.marshal_read.specs.declared.read_totals.ReadTotals.{ReadTotals}
 use Rattle.marshal_read.specs.declared.reader.Reader.{Reader}
 use Rattle.marshal_read.specs.declared.reader.Fed.{Fed}
 use Rattle.marshal_read.specs.declared.reader.Truncated.{Truncated}
-use Rattle.marshal_read.specs.declared.value.Value.{Value}
+use Rattle.marshal_read.specs.declared.returned_value.Value.{Value}
 use Rattle.marshal_read.specs.Build.{Bounded}
 use Rattle.marshal_read.specs.Chunks.{LeadsChunks, IsWhole}
 use Rattle.marshal_read.specs.Reading.{IsValueOf}
@@ -23,7 +23,7 @@ IsReading reader = reader.refusal ≡ None
 
 -- The reader has consumed the bytes `taken` under the limit and refused none of them. The state of
 -- the reader is the state that `taken` produces.
-pub record Leads (limit : ℕ) (taken : List ℕ) (reader : Reader) : Type 0 where
+pub record LeadsReader (limit : ℕ) (taken : List ℕ) (reader : Reader) : Type 0 where
   pub bytes : AreBytes taken
   pub reads : IsReading reader
   pub chunks : LeadsChunks limit taken reader.chunks
@@ -35,7 +35,7 @@ IsStopped refusal reader = reader.refusal ≡ Some refusal
 -- The invariant of a reader: some bytes lead to the reader, or the reader has refused its bytes.
 abbrev pub IsReader : Reader → Type 0
 IsReader reader =
-    ((limit : ℕ) × (taken : List ℕ) × Leads limit taken reader)
+    ((limit : ℕ) × (taken : List ℕ) × LeadsReader limit taken reader)
     ⊎ ((refusal : ReadRefusal) × IsStopped refusal reader)
 
 -- The reader has a complete value.
@@ -48,7 +48,7 @@ pub record Feeds (limit : ℕ) (taken chunk : List ℕ) (new : Reader) (fed : Fe
   -- A prefix of the chunk is consumed. The bytes taken before and this prefix lead to the new
   -- reader.
   pub within : fed.taken ≤ length chunk
-  pub leads : Leads limit (taken ++ take fed.taken chunk) new
+  pub leads : LeadsReader limit (taken ++ take fed.taken chunk) new
   -- If the value is not complete, then the whole chunk is consumed, and all bytes taken are a
   -- prefix of a value.
   pub more : fed.done ≡ false → (fed.taken ≡ length chunk) × IsPrefix limit (taken ++ chunk)

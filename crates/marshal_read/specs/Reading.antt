@@ -14,13 +14,13 @@ use Rattle.marshal_spec.specs.format.Prefix.{context, with_next, IsRefused}
 use Rattle.marshal_read.specs.declared.unread.Unread.{Unread}
 use Rattle.marshal_read.specs.declared.unread.Unread.TheVariants.{NeedMore, Refused}
 use Rattle.marshal_read.specs.declared.read_totals.ReadTotals.{ReadTotals}
-use Rattle.marshal_read.specs.declared.value.Value.{Value}
+use Rattle.marshal_read.specs.declared.returned_value.Value.{Value}
 use Rattle.marshal_read.specs.Totals.{AreTotals}
 use Rattle.marshal_read.specs.Build.{Bounded, start, absorb_all}
 
 -- `position` has the totals after the header and the tokens `before`. The graph `state` is built
 -- from the tokens that the bytes encode, within the words that the header states.
-pub record Builds (header : List ℕ) (before : List (List ℕ)) (position : ReadTotals)
+pub record BuildsGraph (header : List ℕ) (before : List (List ℕ)) (position : ReadTotals)
     (state : Bounded)
     : Type 0 where
   pub tokens : List Token
@@ -40,7 +40,7 @@ NextOf header before rest state (Err (Refused r)) =
     r ≢ Memory → first_refusal (length rest) (token_steps (context header before) rest) ≡ Some r
 NextOf header before rest state (Ok next) =
     (first_refusal (length rest) (token_steps (context header before) rest) ≡ None)
-    × (raw_length rest ≤ length rest) × Builds header (with_next before rest) next state
+    × (raw_length rest ≤ length rest) × BuildsGraph header (with_next before rest) next state
 
 -- One token is read and leads to the new state, or nothing is read and nothing changes. If the last
 -- token is read, then all data are read.

@@ -78,7 +78,7 @@ pub record IsSized (c : Context) (measure : Option Measure) (n : ℕ) : Type 0 w
   pub few64 : AreFew words64 measure n
 
 -- All data, words and objects that the header states are consumed.
-pub record Ends (position : ReadTotals) : Type 0 where
+pub record EndsValue (position : ReadTotals) : Type 0 where
   pub taken : position.taken ≡ position.head.length
   pub w32 : position.head.big ≡ false → position.w32 ≡ position.head.w32
   pub w64 : position.w64 ≡ position.head.w64
@@ -88,7 +88,7 @@ pub record Ends (position : ReadTotals) : Type 0 where
 -- all that the header states is consumed. If the result is false, then the totals do not change.
 abbrev pub Advances : ReadTotals → ℕ → Option Measure → ReadTotals → Bool → Type 0
 Advances old n measure new true =
-    (new.pending ≡ 0 → Ends new) × AreTotals new (moved (context_of old) n measure)
+    (new.pending ≡ 0 → EndsValue new) × AreTotals new (moved (context_of old) n measure)
 Advances old n measure new false = new ≡ old
 
 -- The kind is not a custom block.
@@ -104,5 +104,5 @@ pub record PassesTo (position : ReadTotals) (code : ℕ) (kind : CodeKind) (rest
   pub whole : fixed_bytes kind + variable_bytes kind rest ≤ length rest
   pub plain : IsPlain kind
   pub sound : field_refusal (context_of position) code kind rest ≡ None
-  pub ends : next.pending ≡ 0 → Ends next
+  pub ends : next.pending ≡ 0 → EndsValue next
   pub next_is : AreTotals next (after_kind (context_of position) kind rest)

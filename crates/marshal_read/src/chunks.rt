@@ -4,8 +4,8 @@
 ghost use Rattle.std.specs.Prelude.{◌≡◌, ◌<◌, ℕ, List, [], length, take, Some};
 
 use crate::reading::Reading;
+use crate::returned_value::{Borrowed, Value};
 use crate::unread::Unread;
-use crate::value::{Borrowed, Value};
 use base_data::model::refusal::ReadRefusal;
 use marshal_heap::heap::Heap;
 use std::alloc::Global;

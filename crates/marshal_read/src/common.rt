@@ -10,15 +10,15 @@ ghost use Rattle.base_data.specs.model.Bytes.{number, signed};
 ghost use Rattle.marshal_spec.specs.format.Step.{Context, field_refusal, is_integer};
 ghost use Rattle.marshal_read.specs.declared.read_totals.ReadTotals.{ReadTotals};
 ghost use Rattle.marshal_read.specs.Totals.{IsPlain};
-ghost use Rattle.marshal_read.specs.Left.{Leaves, Stands, TakesLeft, TakesAll};
+ghost use Rattle.marshal_read.specs.Left.{LeavesRoom, StandsInRun, TakesLeft, TakesAll};
 ghost use Rattle.marshal_read.specs.Chunks.{LeadsAs, TakesCommon};
 
-use crate::build::Builder;
 use crate::decode::decode_in_room;
+use crate::graph_builder::Builder;
 use crate::read_totals::{ReadTotals, data_in};
 use crate::remaining_room::RemainingRoom;
-use crate::run::run;
-use crate::token::measure_at;
+use crate::token_runs::run;
+use crate::token_sizes::measure_at;
 use base_data::model::bytes::skip;
 use base_data::model::code::CodeKind;
 use marshal_codec::codes::{KnownKind, code_kind};
@@ -86,7 +86,7 @@ fn text_len(rest: &[u8], width: u8) -> Option<usize>
 /// complete, and its fields are sound. A reference is sound if the header states some objects and
 /// the reference leads to one of the `objects` objects so far. The token needs little room, and few
 /// fields follow the token for its length.
-#[tactic(auto, using(crate::proofs::RunLemmas::few_fields, crate::proofs::RunLemmas::all_fields))]
+#[tactic(auto, using(crate::proofs::ReaderRunLemmas::few_fields, crate::proofs::ReaderRunLemmas::all_fields))]
 #[inline(always)]
 pub fn sound_len(stated: u64, objects: u64, kind: KnownKind, rest: &[u8]) -> Option<usize>
     ensures len { IfSome result
@@ -141,7 +141,7 @@ pub fn sound_len(stated: u64, objects: u64, kind: KnownKind, rest: &[u8]) -> Opt
 }
 
 /// Reads the next token, whose kind is `kind`, if the token surely passes and needs no new memory.
-#[tactic(auto, using(crate::proofs::SizeLemmas::measure_small))]
+#[tactic(auto, using(crate::proofs::ReaderSizeLemmas::measure_small))]
 #[inline(always)]
 fn take_kind(
     first: &ReadTotals,
@@ -155,9 +155,9 @@ fn take_kind(
     requires open { 0 < left.old.pending }
     requires stands { (n : ℕ) × (header : List ℕ) × (before : List (List ℕ))
         × (position : ReadTotals)
-        × Stands first.now n header before position left.old builder.old }
+        × StandsInRun first.now n header before position left.old builder.old }
     ensures { (n : ℕ) (header : List ℕ) (before : List (List ℕ)) (position : ReadTotals)
-        → Stands first.now n header before position left.old builder.old
+        → StandsInRun first.now n header before position left.old builder.old
         → TakesLeft first.now n header before bytes.now position left.old builder.old left.new
         builder.new result }
 {
@@ -195,9 +195,9 @@ fn take_one(
     requires open { 0 < left.old.pending }
     requires stands { (n : ℕ) × (header : List ℕ) × (before : List (List ℕ))
         × (position : ReadTotals)
-        × Stands first.now n header before position left.old builder.old }
+        × StandsInRun first.now n header before position left.old builder.old }
     ensures { (n : ℕ) (header : List ℕ) (before : List (List ℕ)) (position : ReadTotals)
-        → Stands first.now n header before position left.old builder.old
+        → StandsInRun first.now n header before position left.old builder.old
         → TakesLeft first.now n header before bytes.now position left.old builder.old left.new
         builder.new result }
 {
@@ -237,7 +237,7 @@ fn take_all(
 ) -> usize
     requires open { 0 < first.now.pending }
     requires within { first.now.taken + length bytes.now ≤ first.now.head.length }
-    requires leaves { Leaves first.now 0 first.now left.old }
+    requires leaves { LeavesRoom first.now 0 first.now left.old }
     requires leads { (limit : ℕ) × (taken : List ℕ)
         × LeadsAs (Some first.now) limit taken builder.old [] }
     ensures { (limit : ℕ) (taken : List ℕ) → LeadsAs (Some first.now) limit taken builder.old [] →
@@ -265,7 +265,7 @@ fn take_many(
 ) -> usize
     requires open { 0 < first.now.pending }
     requires within { first.now.taken + length bytes.now ≤ first.now.head.length }
-    requires leaves { Leaves first.now 0 first.now left.old }
+    requires leaves { LeavesRoom first.now 0 first.now left.old }
     requires leads { (limit : ℕ) × (taken : List ℕ)
         × LeadsAs (Some first.now) limit taken builder.old [] }
     ensures { (limit : ℕ) (taken : List ℕ) → LeadsAs (Some first.now) limit taken builder.old [] →

@@ -11,9 +11,9 @@ ghost use Rattle.marshal_spec.specs.format.Words.{of_object, fields};
 ghost use Rattle.marshal_read.specs.Build.{absorb_in, Fits};
 ghost use Rattle.marshal_read.specs.Contents.{EncodesTokenAfter};
 
-use crate::build::Builder;
 use crate::content::{custom_value, doubles_of};
-use crate::token::double_bits;
+use crate::graph_builder::Builder;
+use crate::token_sizes::double_bits;
 use base_data::model::Memory;
 use base_data::model::bytes::{big_endian, double, signed, skip};
 use base_data::model::code::CodeKind;

@@ -21,21 +21,21 @@
 //! checks types without a heap. The crate promises neither time nor the size of memory.
 #![tactic(auto)]
 
-mod build;
 mod chunks;
 mod common;
 mod content;
 mod decode;
-mod head;
-mod read;
+mod graph_builder;
+mod judged_header;
 mod read_totals;
 mod reader;
 mod reading;
 mod remaining_room;
-mod run;
-mod token;
+mod returned_value;
+mod token_reader;
+mod token_runs;
+mod token_sizes;
 mod unread;
-mod value;
 
 pub use reader::{Fed, Reader, Truncated};
-pub use value::{Borrowed, Value};
+pub use returned_value::{Borrowed, Value};

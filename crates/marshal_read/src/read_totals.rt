@@ -5,7 +5,7 @@ ghost use Rattle.std.specs.Prelude.{slice_index, None, OnOk, IfOk, false, nat_lt
 ghost use Rattle.std.specs.Prelude.{if◌then◌else◌};
 ghost use Rattle.std.specs.Option.{ForSome};
 
-use crate::token::{measure_at, variable_len};
+use crate::token_sizes::{measure_at, variable_len};
 use crate::unread::{Unread, pass};
 use base_data::model::bytes::skip;
 use base_data::model::code::{CodeFault, CodeKind, CustomKind, Measure};
@@ -66,9 +66,9 @@ impl ReadTotals {
     ghost use Rattle.marshal_spec.specs.format.Step.{position};
     ghost use Rattle.marshal_spec.specs.format.Raw.{raw_length};
     ghost use Rattle.marshal_codec.specs.token.Summary.{IsFair, summary_measure};
-    ghost use Rattle.marshal_codec.specs.token.Fault.{refusal_of};
-    ghost use Rattle.marshal_codec.specs.token.Complete.{closing, remaining_steps};
-    ghost use Rattle.marshal_codec.specs.token.Complete.{reference_refusal as refusal_of_reference};
+    ghost use Rattle.marshal_codec.specs.token.TokenFault.{refusal_of};
+    ghost use Rattle.marshal_codec.specs.token.RemainingSteps.{closing, remaining_steps};
+    ghost use Rattle.marshal_codec.specs.token.RemainingSteps.{reference_refusal as refusal_of_reference};
     ghost use Rattle.marshal_read.specs.Totals.{AreTotals, AreFew, IsNext, context_of, sums, moved};
     ghost use Rattle.marshal_read.specs.Totals.{after_kind, IsSized};
     ghost use Rattle.marshal_codec.specs.headers.Counting.{IsCountable};
@@ -343,7 +343,7 @@ impl ReadTotals {
 
     /// Performs the steps that need the token's size. After the last token, also performs the steps
     /// of the whole value. Returns the totals after the token.
-    #[tactic(auto, using(crate::proofs::SizeLemmas::measure_small))]
+    #[tactic(auto, using(crate::proofs::ReaderSizeLemmas::measure_small))]
     fn close(&self, kind: KnownKind, rest: &[u8], len: u64) -> Result<ReadTotals, Unread>
         requires open { 0 < self.now.pending }
         requires whole { field_bytes kind.kind ≤ length rest.now }

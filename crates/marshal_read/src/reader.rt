@@ -5,7 +5,7 @@ ghost use Rattle.base_data.specs.declared.model.refusal.ReadRefusal.{ReadRefusal
 ghost use Rattle.marshal_read.specs.Reading.{RefusedIn};
 
 use crate::chunks::Chunks;
-use crate::value::{Borrowed, Value};
+use crate::returned_value::{Borrowed, Value};
 use base_data::model::refusal::ReadRefusal;
 use marshal_heap::heap::Heap;
 use std::alloc::Global;
@@ -34,7 +34,8 @@ pub struct Reader {
 }
 
 impl Reader {
-    ghost use Rattle.marshal_read.specs.Reader.{Leads, IsReader, IsReading, IsStopped, IsDone};
+    ghost use Rattle.marshal_read.specs.Reader.{LeadsReader, IsReader, IsReading, IsStopped};
+    ghost use Rattle.marshal_read.specs.Reader.{IsDone};
     ghost use Rattle.marshal_read.specs.Reader.{Feeds};
     ghost use Rattle.marshal_read.specs.Reader.{IsWithin, Finishes, EndsInput};
 
@@ -42,8 +43,8 @@ impl Reader {
     /// memory.
     pub fn new(alloc: Global, limit: u64) -> Reader
         ensures reader { IsReader result }
-        ensures leads { Leads limit [] result }
-        ensures only { (other : ℕ) (taken : List ℕ) → Leads other taken result → taken ≡ [] }
+        ensures leads { LeadsReader limit [] result }
+        ensures only { (other : ℕ) (taken : List ℕ) → LeadsReader other taken result → taken ≡ [] }
     {
         Reader::over(alloc, limit, Heap::new(alloc))
     }
@@ -52,8 +53,8 @@ impl Reader {
     /// after another.
     pub fn over(alloc: Global, limit: u64, heap: Heap) -> Reader
         ensures reader { IsReader result }
-        ensures leads { Leads limit [] result }
-        ensures only { (other : ℕ) (taken : List ℕ) → Leads other taken result → taken ≡ [] }
+        ensures leads { LeadsReader limit [] result }
+        ensures only { (other : ℕ) (taken : List ℕ) → LeadsReader other taken result → taken ≡ [] }
     {
         Reader {
             alloc,
@@ -65,8 +66,9 @@ impl Reader {
     /// Resets the reader, to read the next value in the same memory.
     pub fn restart(&mut self, limit: u64)
         ensures reader { IsReader self.new }
-        ensures leads { Leads limit [] self.new }
-        ensures only { (other : ℕ) (taken : List ℕ) → Leads other taken self.new → taken ≡ [] }
+        ensures leads { LeadsReader limit [] self.new }
+        ensures only { (other : ℕ) (taken : List ℕ) → LeadsReader other taken self.new
+            → taken ≡ [] }
     {
         self.chunks.restart(limit);
         self.refusal = None;
@@ -80,19 +82,19 @@ impl Reader {
         // Every reader that `new` creates and `feed` changes satisfies `IsReader`.
         requires { IsReader self.old }
         ensures reader { IsReader self.new }
-        ensures feeds { (limit : ℕ) (taken : List ℕ) → Leads limit taken self.old
+        ensures feeds { (limit : ℕ) (taken : List ℕ) → LeadsReader limit taken self.old
             → IfOk result (Feeds limit taken chunk.now self.new) }
         ensures done { IfOk result (λ fed. fed.done ≡ true → IsDone self.new) }
         ensures reads { OnOk result (IsReading self.new) }
         // If the result is a refusal, then some prefix of the bytes is refused for the reason in
         // the refusal, or memory ran out.
-        ensures refuses { (limit : ℕ) (taken : List ℕ) → Leads limit taken self.old
+        ensures refuses { (limit : ℕ) (taken : List ℕ) → LeadsReader limit taken self.old
             → IfErr result (RefusedIn limit (taken ++ chunk.now)) }
         // After a refusal, every call of `feed` returns the same refusal.
         ensures stops { IfErr result (λ refusal. IsStopped refusal self.new) }
         ensures again { (refusal : ReadRefusal) → IsStopped refusal self.old
             → result ≡ Err refusal }
-        ensures within { (limit : ℕ) (taken : List ℕ) → Leads limit taken self.old
+        ensures within { (limit : ℕ) (taken : List ℕ) → LeadsReader limit taken self.old
             → OnOk result
             (IsWithin limit self.new.chunks.reading.totals self.new.chunks.reading.builder) }
     {
@@ -115,7 +117,7 @@ impl Reader {
     pub fn borrow(&self) -> Borrowed<'_>
         requires reader { IsReader self.now }
         requires done { IsDone self.now }
-        ensures { (limit : ℕ) (taken : List ℕ) → Leads limit taken self.now
+        ensures { (limit : ℕ) (taken : List ℕ) → LeadsReader limit taken self.now
             → Finishes limit taken
             (record { heap = result.heap.now; root = result.root }) }
     {
@@ -126,7 +128,7 @@ impl Reader {
     pub fn finish(self) -> Value
         requires reader { IsReader self }
         requires done { IsDone self }
-        ensures { (limit : ℕ) (taken : List ℕ) → Leads limit taken self
+        ensures { (limit : ℕ) (taken : List ℕ) → LeadsReader limit taken self
             → Finishes limit taken result }
     {
         self.chunks.finish()
@@ -135,7 +137,7 @@ impl Reader {
     /// Handles the end of the input. Fails with `Truncated` if the input ends inside a value.
     pub fn at_end(&self) -> Result<(), Truncated>
         requires { IsReading self.now }
-        ensures { (limit : ℕ) (taken : List ℕ) → Leads limit taken self.now
+        ensures { (limit : ℕ) (taken : List ℕ) → LeadsReader limit taken self.now
             → EndsInput limit taken result }
     {
         if self.chunks.reading.is_done() {

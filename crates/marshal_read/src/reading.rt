@@ -2,11 +2,11 @@
 
 ghost use Rattle.std.specs.Prelude.{◌≡◌, ◌≤◌, ◌++◌, ◌↔◌, ℕ, List, [], length, take, None, IsTrue};
 
-use crate::build::Builder;
 use crate::common::take_common;
-use crate::head::judge_header;
-use crate::read::next_token;
+use crate::graph_builder::Builder;
+use crate::judged_header::judge_header;
 use crate::read_totals::ReadTotals;
+use crate::token_reader::next_token;
 use crate::unread::Unread;
 use marshal_heap::heap::Heap;
 use std::alloc::Global;

@@ -59,7 +59,7 @@ fn is_count(stated: u64, objects: u64, measure: Option<Measure>) -> bool
 impl RemainingRoom {
     ghost use Rattle.marshal_read.specs.declared.read_totals.ReadTotals.{ReadTotals};
     ghost use Rattle.marshal_read.specs.Totals.{AreTotals, context_of};
-    ghost use Rattle.marshal_read.specs.Left.{Leaves, Spends, IsSpent, limit_of, HasPlenty};
+    ghost use Rattle.marshal_read.specs.Left.{LeavesRoom, SpendsRoom, IsSpent, limit_of, HasPlenty};
     ghost use Rattle.marshal_read.specs.Left.{IsAfter};
 
     /// Returns the number of words on 32 bits that a header allows. A big header states no words on
@@ -72,7 +72,7 @@ impl RemainingRoom {
 
     /// Returns the room that remains at the totals `first`.
     pub fn at(first: &ReadTotals) -> RemainingRoom
-        ensures { Leaves first.now 0 first.now result }
+        ensures { LeavesRoom first.now 0 first.now result }
     {
         RemainingRoom {
             slack: first.head.length - (first.taken + first.pending),
@@ -127,7 +127,7 @@ impl RemainingRoom {
         requires short { n < 2 ^ 32 }
         requires small { of_object fields measure < 2 ^ 60 }
         requires countable { ForSome measure IsCountable }
-        ensures { MatchBool result (Spends self.old n measure self.new) (self.new ≡ self.old) }
+        ensures { MatchBool result (SpendsRoom self.old n measure self.new) (self.new ≡ self.old) }
     {
         let Some(measure) = measure else {
             if self.slack < n - 1 {
@@ -174,9 +174,9 @@ impl RemainingRoom {
 
     /// Returns the totals `n` bytes after the totals `first`, with `objects` objects.
     pub fn position(self, first: &ReadTotals, n: u64, objects: u64) -> ReadTotals
-        requires { (position : ReadTotals) × Leaves first.now n position self
+        requires { (position : ReadTotals) × LeavesRoom first.now n position self
             × (objects ≡ position.objects) }
-        ensures { (position : ReadTotals) → Leaves first.now n position self
+        ensures { (position : ReadTotals) → LeavesRoom first.now n position self
             → objects ≡ position.objects
             → AreTotals result (context_of position) }
     {
@@ -193,7 +193,7 @@ impl RemainingRoom {
 }
 
 impl Run {
-    ghost use Rattle.marshal_read.specs.Left.{Goes};
+    ghost use Rattle.marshal_read.specs.Left.{StaysPending};
 
     /// Adds a token whose object has this measure to the run. Returns true if a value is still
     /// pending.
@@ -205,7 +205,7 @@ impl Run {
         requires countable { ForSome measure IsCountable }
         requires more { of_object words64 measure ≤ of_object words32 measure }
         requires room { self.old.extra + of_object words32 measure < 2 ^ 64 }
-        ensures { MatchBool result (Goes self.old measure self.new) (self.new ≡ self.old) }
+        ensures { MatchBool result (StaysPending self.old measure self.new) (self.new ≡ self.old) }
     {
         let Some(measure) = measure else {
             if self.pending == 1 {

@@ -1,8 +1,8 @@
 pub mod ByteLemmas
 pub mod CanonLemmas
-pub mod HeaderLemmas
+pub mod CanonicalHeaderLemmas
 pub mod IsomorphismLemmas
-pub mod ListLemmas
+pub mod CanonicalListLemmas
 pub mod SameTree
 pub mod EncodingLemmas
 pub mod TreeGraphs

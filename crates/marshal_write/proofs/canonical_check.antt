@@ -1,3 +1,3 @@
 pub mod DoublesLemmas
-pub mod HeaderLemmas
+pub mod CanonicalCheckHeaderLemmas
 pub mod CanonicalLemmas

@@ -1,6 +1,6 @@
 pub mod ShiftLemmas
-pub mod CopyLemmas
+pub mod GraftCopyLemmas
 pub mod RenameLemmas
-pub mod OrderLemmas
+pub mod GraftOrderLemmas
 pub mod FillLemmas
-pub mod WholeLemmas
+pub mod GraftWholeLemmas

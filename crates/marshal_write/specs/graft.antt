@@ -1,4 +1,4 @@
 pub mod Copies
 pub mod Laws
-pub mod Order
+pub mod ObjectOrder
 pub mod Renamed

@@ -1,9 +1,9 @@
 pub mod Laws
 pub mod Marks
-pub mod Numbers
-pub mod Step
-pub mod Sums
+pub mod ObjectNumbers
+pub mod WriteStep
+pub mod TokenSums
 pub mod Reports
-pub mod Text
-pub mod Walking
-pub mod Written
+pub mod WriteBuffer
+pub mod WriteWalk
+pub mod WrittenValue

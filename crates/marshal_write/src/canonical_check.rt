@@ -2,8 +2,8 @@
 //! OCaml's runtime writes for the value. `is_canonical_bytes` uses the bytes alone and builds no
 //! value. The answer true is proved. The answer false is inconclusive.
 
-mod canonical;
-mod prefixes;
-mod tokens;
+mod canonical_bytes;
+mod canonical_tokens;
+mod encoded_prefixes;
 
-pub use canonical::is_canonical_bytes;
+pub use canonical_bytes::is_canonical_bytes;

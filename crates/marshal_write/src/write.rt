@@ -4,19 +4,19 @@
 //! reading and writing are inverse to each other.
 
 mod compat;
-mod encode;
-mod head;
 pub mod laws;
 mod marks;
 mod measure;
-mod numbers;
-mod text;
+mod object_numbers;
+mod token_encoding;
+mod value_header;
+mod write_buffer;
 mod write_walk;
 mod writer;
 mod writer32;
 
 pub use compat::Compat;
-pub use head::head_of;
-pub use numbers::{Numbers, number_objects};
+pub use object_numbers::{Numbers, number_objects};
+pub use value_header::head_of;
 pub use writer::write;
 pub use writer32::{Write32Error, write32};

@@ -5,7 +5,7 @@ use Rattle.cli_spec.specs.declared.status.Status.TheVariants.{WriteFault}
 use Rattle.cli_spec.specs.Outcome.{status_of, exit_line}
 use Rattle.cli_spec.specs.declared.exit.Exit.{Exit}
 use Rattle.base_io.specs.Sink.{Writes, WritesPart}
-use Rattle.base_io.specs.State.{ByteState, Change}
+use Rattle.base_io.specs.StreamState.{ByteState, Change}
 
 -- If the error line of the exit reason is written completely, `status` is the status of the exit
 -- reason. If not, `status` is `WriteFault`.

@@ -22,7 +22,7 @@ ghost use Rattle.std.specs.declared.io.ErrorKind.TheVariants as kinds;
 ghost use Rattle.cli_spec.specs.declared.exit.Exit.TheVariants.{Usage as usage};
 ghost use Rattle.cli_spec.specs.declared.exit.Exit.TheVariants.{Memory as out_of_memory};
 ghost use Rattle.cli_spec.specs.Status.{code_of};
-ghost use Rattle.base_io.specs.State.{change};
+ghost use Rattle.base_io.specs.StreamState.{change};
 ghost use Rattle.omarshal.specs.Ending.{Outputs};
 
 use base_io::{DiskFiles, MaybeClosed, Sink, StdSink, StdSource};

@@ -1,5 +1,5 @@
-pub mod KnownLemmas
+pub mod OnlyKnownLemmas
 pub mod OnlyCommandLemmas
 pub mod EachLemmas
-pub mod FetchLemmas
-pub mod TableLemmas
+pub mod OnlyFetchLemmas
+pub mod OnlyTableLemmas

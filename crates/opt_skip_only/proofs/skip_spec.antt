@@ -1,5 +1,5 @@
 pub mod SkippingLemmas
 pub mod PassedLemmas
-pub mod TableLemmas
+pub mod SkipTableLemmas
 pub mod AtOnceLemmas
-pub mod FetchLemmas
+pub mod SkipFetchLemmas

@@ -1,4 +1,4 @@
 pub mod OnlyCommand
-pub mod Known
-pub mod Asked
-pub mod Tables
+pub mod OnlyOutput
+pub mod OnlyRequests
+pub mod OnlyTables

@@ -1,3 +1,3 @@
 pub mod Skipping
-pub mod Tables
-pub mod Asked
+pub mod SkipTables
+pub mod SkipRequests

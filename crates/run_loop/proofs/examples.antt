@@ -1,4 +1,4 @@
 pub mod ReportingLemmas
 pub mod LinesLemmas
-pub mod BytesLemmas
-pub mod LawfulLemmas
+pub mod ExampleBytesLemmas
+pub mod ExampleLawfulLemmas

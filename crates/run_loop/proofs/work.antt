@@ -1,7 +1,7 @@
-pub mod FirstLemmas
-pub mod ChunkLemmas
-pub mod RunLemmas
-pub mod AccountLemmas
+pub mod WorkFirstLemmas
+pub mod WorkChunkLemmas
+pub mod WorkRunLemmas
+pub mod WorkAccountLemmas
 pub mod EnvironmentLemmas
-pub mod GatherLemmas
+pub mod WorkGatherLemmas
 pub mod ExitLemmas

@@ -1,2 +1,2 @@
-pub mod Small
-pub mod Taken
+pub mod SmallCommands
+pub mod TakenItems

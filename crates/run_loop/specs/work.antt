@@ -1,4 +1,4 @@
 pub mod Works
 pub mod Runs
 pub mod Reported
-pub mod Gathered
+pub mod GatheredOutput

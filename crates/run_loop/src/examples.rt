@@ -3,14 +3,14 @@
 //! kinds of commands fits the loop over the input. `small_commands_report_environment` proves that
 //! the small commands are lawful.
 
-mod bytes;
+mod bytes_command;
+mod example_runs;
 mod laws;
-mod lines;
+mod lines_command;
 mod reporting;
-mod run;
 
-pub use bytes::BytesBut;
+pub use bytes_command::BytesBut;
+pub use example_runs::{run_bytes, run_lines, run_reporting};
 pub use laws::small_commands_report_environment;
-pub use lines::Lines;
+pub use lines_command::Lines;
 pub use reporting::Reporting;
-pub use run::{run_bytes, run_lines, run_reporting};

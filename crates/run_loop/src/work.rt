@@ -4,15 +4,15 @@
 //! of a run. The loop depends on no type, text or edit.
 
 mod chunk;
-mod gather;
-mod passed;
-mod report;
-mod run;
+mod gathered_output;
+mod input_loop;
+mod passed_bytes;
+mod run_report;
 mod work;
 
 pub use chunk::feed_chunk;
-pub use gather::feed_some;
-pub use passed::PassedBytes;
-pub use report::{environment_is_known, run_reported};
-pub use run::{LENGTH_LIMIT, new_buffer, run_work};
+pub use gathered_output::feed_some;
+pub use input_loop::{LENGTH_LIMIT, new_buffer, run_work};
+pub use passed_bytes::PassedBytes;
+pub use run_report::{environment_is_known, run_reported};
 pub use work::Work;

@@ -1,4 +1,4 @@
 pub mod CommandSumLemmas
-pub mod AgreeLemmas
-pub mod PartLemmas
+pub mod CommandSumAgreeLemmas
+pub mod CommandSumPartLemmas
 pub mod BesideLemmas

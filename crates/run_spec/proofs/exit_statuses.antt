@@ -1,6 +1,6 @@
-pub mod EndLemmas
-pub mod ItemLemmas
-pub mod OutputLemmas
+pub mod ExitStatusEndLemmas
+pub mod ExitStatusItemLemmas
+pub mod ExitStatusOutputLemmas
 pub mod StageLemmas
-pub mod ExitLemmas
-pub mod NumberedLemmas
+pub mod StatusExitLemmas
+pub mod ExitStatusNumberedLemmas

@@ -1,4 +1,4 @@
 pub mod Tables
 pub mod Stages
-pub mod Values
-pub mod Numbered
+pub mod ValueStatuses
+pub mod NumberedItems

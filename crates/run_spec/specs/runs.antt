@@ -7,7 +7,7 @@ pub mod Commands
 pub mod Lawful
 pub mod Account
 pub mod RunSpec
-pub mod Causes
+pub mod RunCauses
 pub mod CommandLaws
 pub mod RunLaws
 pub mod Example

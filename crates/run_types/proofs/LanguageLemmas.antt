@@ -4,19 +4,19 @@ use Rattle.base_data.specs.declared.model.value.Val.{Val}
 use Rattle.base_data.specs.declared.model.value.Obj.{Obj}
 use Rattle.types_spec.specs.declared.types.decl.Decl.{Decl}
 use Rattle.types_spec.specs.types.Ty.{Ty}
-use Rattle.types_spec.specs.types.Accepted.{AreWellFormed, IsSoundType}
+use Rattle.types_spec.specs.types.WellFormed.{AreWellFormed, IsSoundType}
 use Rattle.types_spec.specs.types.Equal.{declared_shapes}
 use Rattle.types_spec.specs.types.TypeText.{type_text}
-use Rattle.types_theory.proofs.typing.OnceLemmas.{no_line_once}
+use Rattle.types_theory.proofs.typing.TypingOnceLemmas.{no_line_once}
 use Rattle.types_theory.specs.table.TableDecides.{NeverBoth}
-use Rattle.types_theory.proofs.table.FewLemmas.{few_not_many}
+use Rattle.types_theory.proofs.table.TableFewLemmas.{few_not_many}
 use Rattle.marshal_spec.specs.format.Tree.{Tree, root, objects_of}
-use Rattle.types_parse.specs.parse.Written.{declarations_of, type_of_texpr}
-use Rattle.types_wellformed.specs.declarations.Known.{FilesAreWellFormed, TypesAreSound}
-use Rattle.types_wellformed.specs.declarations.Answer.{Answer, accepted, no_lexemes, no_text, too_deep, broken, IsFileAnswer, IsTypeAnswer, HasOneAnswer}
+use Rattle.types_parse.specs.parse.WrittenTrees.{declarations_of, type_of_texpr}
+use Rattle.types_wellformed.specs.declarations.WellFormedLaws.{FilesAreWellFormed, TypesAreSound}
+use Rattle.types_wellformed.specs.declarations.DeclarationAnswer.{DeclarationAnswer, accepted, no_lexemes, no_text, too_deep, broken, IsFileAnswer, IsTypeAnswer, HasOneAnswer}
 use Rattle.types_wellformed.specs.declarations.Read.{IsDeclared, IsTypeOf}
-use Rattle.types_wellformed.specs.declarations.Text.{answer_text}
-use Rattle.text_path.specs.Answer as paths
+use Rattle.types_wellformed.specs.declarations.DeclarationFaultText.{answer_text}
+use Rattle.text_path.specs.ParserAnswer as paths
 use Rattle.text_path.specs.ScriptAnswer as scripts
 use Rattle.text_decimal.specs.scripts.Scripts.{plain_script, decimals_of, given_edits}
 use Rattle.text_path.specs.declared.edits.Script.{Script}
@@ -28,27 +28,27 @@ use Rattle.edit_values.specs.Grafts.{Other}
 use Rattle.edit_values.specs.Laws.{EditsHaveOneAnswer}
 use Rattle.base_data.specs.lines.Lines.{position_in}
 use Rattle.marshal_spec.specs.format.Compat.{too_large_for_32}
-use Rattle.text_path.specs.declared.fault.PathFault.{PathFault}
+use Rattle.text_path.specs.declared.path_fault.PathFault.{PathFault}
 use Rattle.trees.specs.search_trees.Laws.{TreeVerdictsAreOne}
 use Rattle.cli_spec.specs.Outcome.{AskedType, Output, Query, the_verdict, the_text, the_part, the_trees, Unedited, untyped}
-use Rattle.run_types.proofs.GivenLemmas.{given_sound}
-use Rattle.run_types.specs.Language.{TypeOver, declared_types, ReadsPath, IsRefusal, ReachesFew, IsTooMuch, IsAccepted, IsKnownOf, judged, IsTypeLine, IsBytesLine, lines_of_value, AreDone, AreBytesIn, AreBytesOf, AreBytesAfter, bytes_for, ReadsType, AreEditsOf, ReadsScript, script_refusal}
+use Rattle.run_types.proofs.RunTypesGivenLemmas.{given_sound}
+use Rattle.run_types.specs.Language.{TypeOver, declared_types, ReadsPath, IsRefusal, ReachesWithinTable, IsTooMuch, IsAccepted, IsKnownOf, judged, IsTypeLine, IsBytesLine, lines_of_value, AreDone, AreBytesIn, AreBytesOf, AreBytesAfter, bytes_for, ReadsType, AreEditsOf, ReadsScript, script_refusal}
 use Rattle.run_spec.specs.runs.LawfulLanguage.{IsGiven, IsLawful}
 
 -- ---- parse results
 
-tree_or : {Tree : Type 0} → Tree → Answer Tree → Tree
+tree_or : {Tree : Type 0} → Tree → DeclarationAnswer Tree → Tree
 tree_or other (accepted tree) = tree
 tree_or other (no_lexemes fault) = other
 tree_or other (no_text position) = other
 tree_or other (too_deep position) = other
 tree_or other (broken rule position) = other
 
-accepted_once : {Tree : Type 0} (one other : Tree) → ◌≡◌ {A = Answer Tree} (accepted one) (accepted other) → one ≡ other
+accepted_once : {Tree : Type 0} (one other : Tree) → ◌≡◌ {A = DeclarationAnswer Tree} (accepted one) (accepted other) → one ≡ other
 unfolding tree_or
 accepted_once one other same = ap (tree_or one) same
 
-module _ {Tree : Type 0} (Is : List ℕ → Answer Tree → Type 0) (once : HasOneAnswer Is) (text : List ℕ) where
+module _ {Tree : Type 0} (Is : List ℕ → DeclarationAnswer Tree → Type 0) (once : HasOneAnswer Is) (text : List ℕ) where
   trees_once : (tree other : Tree) → Is text (accepted tree) → Is text (accepted other) → tree ≡ other
   trees_once tree other one two = accepted_once tree other (once text (accepted tree) (accepted other) one two)
 
@@ -154,7 +154,7 @@ module _ (files_once : HasOneAnswer IsFileAnswer) (types_once : (decls : List De
   type_refusals decls asked refusal other (inr r) (inr s) = r.encoded ∙ sym s.encoded
 
   -- A value has the type or a fault, and not both.
-  module _ (t : TypeOver) (ok : AreWellFormed t.decls) (sound : IsSoundType t.decls t.type) (few : ReachesFew t.decls t.type) (graph : List Obj) (v : Val) where
+  module _ (t : TypeOver) (ok : AreWellFormed t.decls) (sound : IsSoundType t.decls t.type) (few : ReachesWithinTable t.decls t.type) (graph : List Obj) (v : Val) where
     -- A value that has the type has one output.
     known_once : TreeVerdictsAreOne → (query : Query) (one other : Output) → IsKnownOf query t graph v one → IsKnownOf query t graph v other → one ≡ other
     known_once verdicts_once the_verdict one other is its = is ∙ sym its
@@ -186,7 +186,7 @@ module _ (files_once : HasOneAnswer IsFileAnswer) (types_once : (decls : List De
       let s = given_sound files_ok types_sound t given in lines_once t s.ok s.sound s.few (objects_of tree 0) (root tree 0) verdicts_once query
 
   -- Two results of the edits of the earlier values are equal.
-  done_once : (t : TypeOver) → AreWellFormed t.decls → IsSoundType t.decls t.type → (few : ReachesFew t.decls t.type)
+  done_once : (t : TypeOver) → AreWellFormed t.decls → IsSoundType t.decls t.type → (few : ReachesWithinTable t.decls t.type)
       → (script : List ScriptLine) (done : List Other) (earlier : List Tree) (others second : List Other)
       → AreDone t script done earlier others → AreDone t script done earlier second → others ≡ second
   done_once t ok sound few script done [] others second is its = is ∙ sym its

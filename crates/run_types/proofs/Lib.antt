@@ -1,7 +1,7 @@
-pub mod TypeLemmas
-pub mod GivenLemmas
+pub mod RequestedTypeLemmas
+pub mod RunTypesGivenLemmas
 pub mod DoneLemmas
 pub mod LanguageLemmas
-pub mod BytesLemmas
-pub mod VerdictLemmas
-pub mod ScriptLemmas
+pub mod RunTypesBytesLemmas
+pub mod RunTypesVerdictLemmas
+pub mod RunTypesScriptLemmas

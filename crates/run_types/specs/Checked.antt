@@ -10,8 +10,8 @@ use Rattle.types_spec.specs.types.TypeText.{type_text}
 use Rattle.types_spec.specs.types.Typing.{HasType}
 use Rattle.types_spec.specs.types.VerdictText.{IsNoLine}
 use Rattle.types_theory.specs.type_variables.TypeVariables.{HasEachInstance}
-use Rattle.cli_errors.specs.declared.exit.Error.{Error}
-use Rattle.cli_errors.specs.declared.exit.Error.TheVariants as aborts
+use Rattle.cli_errors.specs.declared.exit_line.Error.{Error}
+use Rattle.cli_errors.specs.declared.exit_line.Error.TheVariants as aborts
 use Rattle.run_types.specs.declared.requested.Prepared.{Prepared}
 
 -- The exit reason is that memory ran out, or it satisfies `Exits`.

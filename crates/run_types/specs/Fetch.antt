@@ -1,10 +1,10 @@
 -- The result of fetching a file.
 use Rattle.std.specs.Prelude.{ℕ, List}
 use Rattle.cli_spec.specs.Outcome as outcome
-use Rattle.base_io.specs.State.{FilesState, Change}
+use Rattle.base_io.specs.StreamState.{FilesState, Change}
 use Rattle.run_types.specs.declared.fetch.Fetch.{Fetch}
 use Rattle.run_types.specs.declared.fetch.Fetch.TheVariants.{Opened, Missing, Failed}
-use Rattle.run_types.specs.Gathered.{taken_of}
+use Rattle.run_types.specs.GatheredFile.{taken_of}
 use Rattle.run_spec.specs.runs.Given.{Fetched}
 
 abbrev pub fetch_found : Fetch → outcome.Found

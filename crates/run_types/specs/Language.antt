@@ -21,27 +21,29 @@ use Rattle.marshal_spec.specs.format.Isomorphism.{IsTreeOf}
 use Rattle.marshal_spec.specs.format.Tree.{Tree, root, objects_of}
 use Rattle.text_decimal.specs.scripts.Scripts.{AreGivenEdits}
 use Rattle.text_decimal.specs.texts.Texts.{decimal_text}
-use Rattle.types_wellformed.specs.declarations.Answer.{Answer, accepted, IsFileAnswer, IsTypeAnswer}
+use Rattle.types_wellformed.specs.declarations.DeclarationAnswer.{DeclarationAnswer, accepted}
+use Rattle.types_wellformed.specs.declarations.DeclarationAnswer.{IsFileAnswer, IsTypeAnswer}
 use Rattle.types_wellformed.specs.declarations.Read.{IsDeclared, IsTypeOf}
-use Rattle.types_wellformed.specs.declarations.Text.{answer_text, lexer_text, placed_text}
+use Rattle.types_wellformed.specs.declarations.DeclarationFaultText.{answer_text, lexer_text}
+use Rattle.types_wellformed.specs.declarations.DeclarationFaultText.{placed_text}
 use Rattle.edit_values.specs.EditedLines.{AreEdited}
 use Rattle.edit_values.specs.EditedValues.{Edited}
 use Rattle.edit_values.specs.Grafts.{Other}
 use Rattle.edit_values.specs.Reasons.{reason_text}
 use Rattle.base_data.specs.lines.Lines.{position_in, position_on}
-use Rattle.text_path.specs.Answer.{IsAnswer}
-use Rattle.text_path.specs.declared.fault.PathFault.{PathFault}
-use Rattle.text_path.specs.declared.fault.PathFault.TheVariants as path_faults
-use Rattle.text_path.specs.ScriptAnswer.{Edits, AreEdits}
+use Rattle.text_path.specs.ParserAnswer.{IsAnswer}
+use Rattle.text_path.specs.declared.path_fault.PathFault.{PathFault}
+use Rattle.text_path.specs.declared.path_fault.PathFault.TheVariants as path_faults
+use Rattle.text_path.specs.ScriptAnswer.{ScriptEdits, AreEdits}
 use Rattle.text_path.specs.declared.edits.ScriptFault.{ScriptFault}
 use Rattle.text_path.specs.declared.edits.ScriptFault.TheVariants as script_faults
 use Rattle.text_path.specs.declared.edits.ScriptLine.{ScriptLine}
-use Rattle.text_pretty.specs.Lines.{pretty}
-use Rattle.text_print.specs.show.Dumped.{dump_text}
-use Rattle.text_print.specs.show.Shown.{shown_text, shown_at}
+use Rattle.text_pretty.specs.PrettyLines.{pretty}
+use Rattle.text_print.specs.show.DumpedGraph.{dump_text}
+use Rattle.text_print.specs.show.ShownValues.{shown_text, shown_at}
 use Rattle.trees.specs.search_trees.Laws.{IsVerdictOf}
-use Rattle.trees.specs.declared.search_trees.verdict.TreeVerdict.{TreeVerdict}
-use Rattle.trees.specs.verdict.VerdictText.{is_sound, verdict_text}
+use Rattle.trees.specs.declared.search_trees.tree_verdict.TreeVerdict.{TreeVerdict}
+use Rattle.trees.specs.value_verdict.TreeVerdictText.{is_sound, verdict_text}
 use Rattle.cli_spec.specs.declared.style.Style.{Style}
 use Rattle.cli_spec.specs.RefusalText.{compat_text}
 use Rattle.cli_spec.specs.Outcome.{AskedType, Language, Output, Query, the_verdict, the_text}
@@ -188,9 +190,10 @@ AreBytesIn t script compat earlier tree answer =
 -- ---- parsing
 
 -- The refusal is the text of a parse result that accepts nothing. `known` renders positions.
-pub record IsRefusal {T : Type 0} (known : ℕ → List ℕ) (Is : Answer T → Type 0) (refusal : List ℕ)
+pub record IsRefusal {T : Type 0} (known : ℕ → List ℕ) (Is : DeclarationAnswer T → Type 0)
+    (refusal : List ℕ)
     : Type 0 where
-  pub answer : Answer T
+  pub answer : DeclarationAnswer T
   pub is : Is answer
   pub refuses : (tree : T) → answer ≢ accepted tree
   pub encoded : refusal ≡ answer_text known answer
@@ -201,7 +204,7 @@ ReadsDeclarations lines text (Err refusal) =
     IsRefusal (position_in lines text) (IsFileAnswer text) refusal
 
 -- The type reaches these types, at most 65,536.
-pub record ReachesFew (decls : List Decl) (t : Ty) : Type 0 where
+pub record ReachesWithinTable (decls : List Decl) (t : Ty) : Type 0 where
   pub types : List Ty
   pub reached : IsReached decls t types
   pub few : length types ≤ 65536
@@ -218,7 +221,7 @@ pub record IsTooMuch (decls : List Decl) (text refusal : List ℕ) : Type 0 wher
 pub record IsAccepted (decls : List Decl) (asked : AskedType) (t : TypeOver) : Type 0 where
   pub over : t.decls ≡ decls
   pub written : IsTypeOf decls asked.text t.type
-  pub few : ReachesFew decls t.type
+  pub few : ReachesWithinTable decls t.type
   pub lined : t.lines ≡ asked.lines
   pub decimaled : t.decimal ≡ asked.decimal
 
@@ -244,7 +247,7 @@ script_refusal lines script_faults.Memory = None
 
 -- The edits of a script, or the fault of the script. If `decimal` is true, then these are the edits
 -- of the script's plain text, with the positions of the given text.
-abbrev pub AreEditsOf : (decimal : Bool) → List ℕ → Edits → Type 0
+abbrev pub AreEditsOf : (decimal : Bool) → List ℕ → ScriptEdits → Type 0
 AreEditsOf false text all = AreEdits 1 text all
 AreEditsOf true text all = AreGivenEdits text all
 

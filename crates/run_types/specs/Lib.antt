@@ -1,7 +1,7 @@
-pub mod Bytes
+pub mod ValueBytes
 pub mod Checked
 pub mod Fetch
-pub mod Gathered
+pub mod GatheredFile
 pub mod Language
-pub mod Types
-pub mod Verdict
+pub mod RequestedTexts
+pub mod TypeVerdict

@@ -1,12 +1,12 @@
 //! Fetches a file and reads it completely.
 
 ghost use Rattle.std.specs.Prelude.{◌≡◌, MatchResult};
-ghost use Rattle.base_io.specs.State.{as_source, change};
+ghost use Rattle.base_io.specs.StreamState.{as_source, change};
 ghost use Rattle.run_types.specs.Fetch.{fetch_found, FetchedSome};
-ghost use Rattle.run_types.specs.Gathered.{taken_of, GathersSome};
+ghost use Rattle.run_types.specs.GatheredFile.{taken_of, GathersSome};
 ghost use Rattle.run_spec.specs.runs.Given.{Gathers, Fetched};
 
-use crate::gather::{Gathered, InputEnd, LENGTH_LIMIT, store};
+use crate::gathered_file::{Gathered, InputEnd, LENGTH_LIMIT, store};
 use base_data::model::Memory;
 use base_io::{OpenError, Opener};
 use std::alloc::Global;

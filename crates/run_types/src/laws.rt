@@ -11,8 +11,8 @@ use run_spec::value_commands::laws::Prints;
 use text_path::{one_answer as one_path, one_script_answer};
 use trees::search_trees::tree_verdicts_are_one;
 use types_theory::table::type_or_fault;
-use types_wellformed::declarations::known::{files_are_well_formed, types_are_sound};
 use types_wellformed::declarations::laws::one_answer;
+use types_wellformed::declarations::well_formed_laws::{files_are_well_formed, types_are_sound};
 
 /// The language of OCaml type declarations, type expressions and edit scripts.
 pub struct DeclaredTypes;

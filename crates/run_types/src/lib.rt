@@ -24,19 +24,19 @@
 //! in `cmd_build` and `cmd_verify`.
 #![tactic(auto)]
 
-mod bytes;
-mod check;
 mod fetch;
-mod gather;
+mod gathered_file;
 pub mod laws;
 mod requested;
-mod types;
-mod verdict;
+mod requested_texts;
+mod type_verdict;
+mod value_bytes;
+mod value_check;
 
-pub use bytes::{write_bytes, write_plain};
-pub use check::check_type;
 pub use fetch::{Fetch, fetch_file};
-pub use gather::{Gathered, InputEnd, LENGTH_LIMIT, store};
+pub use gathered_file::{Gathered, InputEnd, LENGTH_LIMIT, store};
 pub use requested::{Prepared, Requested};
-pub use types::{find_script, find_type, path_exit, read_gathered};
-pub use verdict::{find_fault, find_verdict, write_missed_no, write_near_no, write_no};
+pub use requested_texts::{find_script, find_type, path_exit, read_gathered};
+pub use type_verdict::{find_fault, find_verdict, write_missed_no, write_near_no, write_no};
+pub use value_bytes::{write_bytes, write_plain};
+pub use value_check::check_type;

@@ -1,7 +1,7 @@
 //! The type that a run requests, and the table that checks values against it.
 
 ghost use Rattle.std.specs.Prelude.{◌≡◌};
-ghost use Rattle.run_types.specs.Types.{IsReady};
+ghost use Rattle.run_types.specs.RequestedTexts.{IsReady};
 
 use base_data::model::list::List;
 use std::marker::Model;
@@ -37,7 +37,7 @@ impl Model for Requested {
 
     ghost coded = { Prim.hlevel (codes, code) };
 
-    ghost use Rattle.run_types.specs.Types.{IsReady};
+    ghost use Rattle.run_types.specs.RequestedTexts.{IsReady};
 
     ghost view = { λ r. r.of };
 

@@ -22,12 +22,12 @@ use Rattle.text_path.specs.declared.edits.Action.TheVariants as actions
 use Rattle.text_path.specs.declared.edits.Edit.{Edit}
 use Rattle.text_path.specs.declared.edits.ScriptLine.{ScriptLine}
 use Rattle.run_types.specs.Language.{lines_of_value}
-use Rattle.edit_values.specs.declared.refusal.EditRefusal.{EditRefusal}
+use Rattle.edit_values.specs.declared.edit_refusal.EditRefusal.{EditRefusal}
 use Rattle.edit_values.specs.Grafts.{Other, IsGraftApplied, IsNotGraftedFor}
 use Rattle.edit_values.specs.LineLaws.{IsLineApplied, IsLineRefusedFor}
 use Rattle.edit_values.specs.Reasons.{Reason, reason_of}
-use Rattle.edit_values.specs.Tables.{IsApplied, IsRefusedFor}
-use Rattle.marshal_read.specs.declared.value.Value.{Value}
+use Rattle.edit_values.specs.TableEdits.{IsApplied, IsRefusedFor}
+use Rattle.marshal_read.specs.declared.returned_value.Value.{Value}
 use Rattle.session.specs.declared.earlier.Earlier.{Earlier}
 use Rattle.session.specs.Earlier.{IsMade, AreMade, AreInOrder, IsThere, IsServed, AreServed, IsEntry, AreEarlier, IsUsedUpTo, AreNamed, without, after_value, after_copy, after_action, all_after, with_made}
 

@@ -6,40 +6,40 @@ use Rattle.base_data.specs.declared.model.value.Obj.{Obj}
 use Rattle.base_data.specs.model.Graph.{IsValue}
 use Rattle.types_spec.specs.types.Ty.{Ty}
 use Rattle.types_spec.specs.types.TypeText.{type_text}
-use Rattle.check_fault.specs.Text.{text_at}
+use Rattle.check_fault.specs.FaultText.{text_at}
 use Rattle.marshal_spec.specs.format.Tree.{Tree}
-use Rattle.base_io.specs.State.{ByteState, Change, change}
-use Rattle.edit_values.specs.EditedValues.{Answer, Edited}
+use Rattle.base_io.specs.StreamState.{ByteState, Change, change}
+use Rattle.edit_values.specs.EditedValues.{EditAnswer, Edited}
 use Rattle.edit_values.specs.Grafts.{Other}
 use Rattle.edit_values.specs.Laws.{SayTheSame}
 use Rattle.edit_values.specs.LineLaws.{IsDeclaredLine, IsLineAnswerIn, IsLineApplied, IsLineRefusedFor, TablesAnswerLinesAgree}
 use Rattle.base_data.specs.lines.Lines.{position_on}
 use Rattle.edit_values.specs.Reasons.{Reason, no_field, no_literal, misread, ill_typed, reason_text, reason_or_none, literal_reason, reason_of}
-use Rattle.edit_values.specs.declared.refusal.EditRefusal.{EditRefusal}
-use Rattle.edit_values.specs.declared.refusal.EditRefusal.TheVariants as refusals
-use Rattle.edit_values.specs.declared.refusal.EditSide.{EditSide}
+use Rattle.edit_values.specs.declared.edit_refusal.EditRefusal.{EditRefusal}
+use Rattle.edit_values.specs.declared.edit_refusal.EditRefusal.TheVariants as refusals
+use Rattle.edit_values.specs.declared.edit_refusal.EditSide.{EditSide}
 use Rattle.types_spec.specs.declared.types.fault.Fault.{Fault}
-use Rattle.text_literal.specs.parser.Reading.{mismatch_at, int_range_at, label_at}
-use Rattle.text_literal.specs.declared.parser.fault.LiteralFault.{LiteralFault}
-use Rattle.text_literal.specs.declared.parser.fault.LiteralFault.TheVariants as literals
+use Rattle.text_literal.specs.parser.LiteralReading.{mismatch_at, int_range_at, label_at}
+use Rattle.text_literal.specs.declared.parser.literal_fault.LiteralFault.{LiteralFault}
+use Rattle.text_literal.specs.declared.parser.literal_fault.LiteralFault.TheVariants as literals
 use Rattle.text_path.specs.declared.edits.ScriptLine.{ScriptLine}
-use Rattle.marshal_read.specs.declared.value.Value.{Value}
+use Rattle.marshal_read.specs.declared.returned_value.Value.{Value}
 use Rattle.cli_spec.specs.Outcome.{Unedited, untyped, refused_line, line_past, outputs, nothing_output, ends_script}
 use Rattle.cli_spec.specs.Outcome as outcome
 use Rattle.cli_spec.specs.declared.exit.Exit.{Exit}
 use Rattle.cli_spec.specs.declared.exit.Exit.TheVariants.{Script as script_line}
-use Rattle.session.specs.declared.edit.Edits.{Edits}
-use Rattle.cli_errors.specs.declared.exit.Error.{Error}
-use Rattle.cli_errors.specs.declared.exit.Error.TheVariants as aborts
+use Rattle.session.specs.declared.edit_lines.Edits.{Edits}
+use Rattle.cli_errors.specs.declared.exit_line.Error.{Error}
+use Rattle.cli_errors.specs.declared.exit_line.Error.TheVariants as aborts
 use Rattle.cli_errors.specs.Exits.{IsOrMemory}
 use Rattle.run_types.specs.declared.requested.Prepared.{Prepared}
 use Rattle.session.specs.Edits.{Edit, EditsOn, IsReasonExit, IsRefusedLine, EditsLine, EditsAll, EditsLines, WritesEdited, AnswersOf, IsPast}
 use Rattle.run_types.specs.Language.{declared_types, AreBytesOf, lines_of_value}
-use Rattle.run_types.specs.Types.{IsReady}
-use Rattle.session.specs.Values.{EndsScript}
-use Rattle.run_spec.proofs.runs.WriteLemmas.{writes_nothing}
+use Rattle.run_types.specs.RequestedTexts.{IsReady}
+use Rattle.session.specs.InputValues.{EndsScript}
+use Rattle.run_spec.proofs.runs.RunWriteLemmas.{writes_nothing}
 use Rattle.run_types.specs.Checked.{ChecksType}
-use Rattle.run_types.specs.Bytes.{WritesBytes}
+use Rattle.run_types.specs.ValueBytes.{WritesBytes}
 
 -- ---- lines
 
@@ -53,7 +53,7 @@ module _ (r : Prepared) (others : List Other) (k : ℕ) (line : ScriptLine) wher
     -- The result of an edit by the table is the result of the edit at the type.
     pub line_applied : (new : Value) → IsValue (length new.heap) new.root → IsLineApplied r.table others line.action old.heap old.root new.heap new.root (Ok tt) → EditsOn r others k line old new
     line_applied new valid applied = at (agree r.decls r.ty r.table ready.made others line.action old.heap old.root (Ok (new.heap, new.root)) applied) where
-      at : (other : Answer Ty) × IsDeclaredLine r.decls r.ty others line.action old.heap old.root other × SayTheSame r.table (Ok (new.heap, new.root)) other → EditsOn r others k line old new
+      at : (other : EditAnswer Ty) × IsDeclaredLine r.decls r.ty others line.action old.heap old.root other × SayTheSame r.table (Ok (new.heap, new.root)) other → EditsOn r others k line old new
       at (Err reason, is, never) = absurd never
       at (Ok edited, is, same) = record {
         valid = valid;
@@ -63,7 +63,7 @@ module _ (r : Prepared) (others : List Other) (k : ℕ) (line : ScriptLine) wher
     pub line_refused : (reason : Reason ℕ) (exit : Exit) → exit ≡ script_line line.number (reason_text (text_at r.table) (position_on r.lines line.number) reason) → IsLineAnswerIn r.table others line.action old.heap old.root (Err reason)
         → IsRefusedLine r others k line old exit
     line_refused reason exit known is = at (agree r.decls r.ty r.table ready.made others line.action old.heap old.root (Err reason) is) where
-      at : (other : Answer Ty) × IsDeclaredLine r.decls r.ty others line.action old.heap old.root other × SayTheSame r.table (Err reason) other → IsRefusedLine r others k line old exit
+      at : (other : EditAnswer Ty) × IsDeclaredLine r.decls r.ty others line.action old.heap old.root other × SayTheSame r.table (Err reason) other → IsRefusedLine r others k line old exit
       at (Ok edited, is, never) = absurd never
       at (Err other, is, same) = (
         other,

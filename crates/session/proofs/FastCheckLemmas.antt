@@ -5,7 +5,7 @@ use Rattle.std.proofs.Math.Seq.{take-append-add}
 use Rattle.std.specs.Prelude.{codes, ◌&&◌, Result}
 use Rattle.std.specs.Borrow.{Bor}
 use Rattle.base_io.specs.Sink.{WritesPart}
-use Rattle.base_io.specs.State.{ByteState, change}
+use Rattle.base_io.specs.StreamState.{ByteState, change}
 use Rattle.base_data.specs.model.Bytes.{AreBytes}
 use Rattle.marshal_spec.specs.format.Prefix.{IsPrefix}
 use Rattle.marshal_spec.specs.format.Stream.{cut}
@@ -22,45 +22,45 @@ use Rattle.edit_values.specs.EditedLines.{AreEdited}
 use Rattle.edit_values.specs.EditedValues.{Edited}
 use Rattle.text_path.specs.declared.edits.ScriptLine.{ScriptLine}
 use Rattle.marshal_write.specs.canonical_check.Canonicity.{IsCanonicalBytes}
-use Rattle.marshal_read.specs.Reader.{Leads, EndsInput}
+use Rattle.marshal_read.specs.Reader.{LeadsReader, EndsInput}
 use Rattle.types_theory.specs.table.TableDecides.{TheRootIsFirst, TablesDecide}
 use Rattle.types_table.specs.type_table.Made.{types_of, table_of}
 use Rattle.check_stream.specs.theory.OnePass.{IsTypedPrefix}
-use Rattle.check_stream.specs.declared.chunks.stream_check.StreamCheck.{StreamCheck}
-use Rattle.check_stream.specs.chunks.StreamCheck.{IsTypedNext, IsMissedNext, held}
-use Rattle.check_stream.specs.declared.search.mismatch.FoundMismatch.{FoundMismatch}
-use Rattle.check_stream.specs.search.Find.{IsFound}
+use Rattle.check_stream.specs.declared.chunk_check.stream_check.StreamCheck.{StreamCheck}
+use Rattle.check_stream.specs.chunk_check.StreamCheck.{IsTypedNext, IsMissedNext, held}
+use Rattle.check_stream.specs.declared.mismatch_search.mismatch.FoundMismatch.{FoundMismatch}
+use Rattle.check_stream.specs.mismatch_search.Find.{IsFound}
 use Rattle.cli_spec.specs.RefusalText.{truncated_text}
 use Rattle.cli_spec.specs.Outcome as outcome
 use Rattle.cli_spec.specs.Outcome.{Output, Outputs, PrintFirst, Unedited, line, all_ok}
 use Rattle.cli_spec.specs.declared.exit.Exit.{Exit}
 use Rattle.cli_spec.specs.declared.exit.Exit.TheVariants.{Value as value}
 use Rattle.run_spec.specs.value_commands.Tasks.{items_of, commands}
-use Rattle.run_spec.proofs.value_commands.FirstLemmas.{outputs_first, prefix_end, goes_on}
+use Rattle.run_spec.proofs.value_commands.ValueCommandFirstLemmas.{outputs_first, prefix_end, goes_on}
 use Rattle.run_spec.specs.runs.Account.{HaveNoExit}
-use Rattle.run_spec.proofs.runs.WriteLemmas.{writes_nothing}
-use Rattle.run_spec.proofs.runs.ValueLemmas.{not_whole, nothing_prefix, first_more, first_after, and_true, all_ok-snoc}
-use Rattle.cli_errors.specs.declared.exit.Error.TheVariants as aborts
+use Rattle.run_spec.proofs.runs.RunWriteLemmas.{writes_nothing}
+use Rattle.run_spec.proofs.runs.RunValueLemmas.{not_whole, nothing_prefix, first_more, first_after, and_true, all_ok-snoc}
+use Rattle.cli_errors.specs.declared.exit_line.Error.TheVariants as aborts
 use Rattle.cli_errors.specs.Exits.{IsOrMemory}
 use Rattle.run_loop.specs.work.Works.{AbortsIn, WritesLast}
 use Rattle.run_types.specs.Language.{declared_types, lines_of_value, bytes_for}
-use Rattle.run_types.specs.Types.{type_over, IsReady}
-use Rattle.run_types.specs.Verdict.{WritesNo}
+use Rattle.run_types.specs.RequestedTexts.{type_over, IsReady}
+use Rattle.run_types.specs.TypeVerdict.{WritesNo}
 use Rattle.run_types.proofs.DoneLemmas.{MakeOf, as_it_came, done_length, done_more}
-use Rattle.run_types.proofs.GivenLemmas.{ready_each}
-use Rattle.run_types.proofs.VerdictLemmas.{is_first, made}
+use Rattle.run_types.proofs.RunTypesGivenLemmas.{ready_each}
+use Rattle.run_types.proofs.RunTypesVerdictLemmas.{is_first, made}
 use Rattle.run_types.specs.declared.requested.Prepared.{Prepared}
-use Rattle.session.specs.declared.values.Values.{Values}
-use Rattle.session.specs.declared.edit.Edits.{Edits}
-use Rattle.session.specs.declared.values.ValueTask.{ValueTask}
-use Rattle.session.specs.declared.values.ValueTask.TheVariants as value_tasks
+use Rattle.session.specs.declared.input_values.Values.{Values}
+use Rattle.session.specs.declared.edit_lines.Edits.{Edits}
+use Rattle.session.specs.declared.input_values.ValueTask.{ValueTask}
+use Rattle.session.specs.declared.input_values.ValueTask.TheVariants as value_tasks
 use Rattle.session.specs.Earlier.{AreEarlier}
-use Rattle.session.specs.declared.verdict.Query.TheVariants as queries
+use Rattle.session.specs.declared.value_output.Query.TheVariants as queries
 use Rattle.session.specs.FastCheck.{yes, no_in, IsVerdictOn, IsVerdictNext, IsBetween, verdict_value_task, IsUnchanged, IsUnchangedNext, IsLeft}
-use Rattle.session.specs.Values.{MayTake, HasRead, IsKept, edits_by, task_of, word_limit}
+use Rattle.session.specs.InputValues.{MayTake, HasRead, IsKept, edits_by, task_of, word_limit}
 use Rattle.session.proofs.EarlierLemmas.{all_stay, left_needed}
-use Rattle.session.proofs.ReadLemmas.{prefix_goes_on, none_goes_on, encode_count, next_aborts, Aborts, last_ok-snoc}
-use Rattle.session.proofs.VerdictLemmas.{writes_yes, no_line}
+use Rattle.session.proofs.SessionReadLemmas.{prefix_goes_on, none_goes_on, encode_count, next_aborts, Aborts, last_ok-snoc}
+use Rattle.session.proofs.SessionVerdictLemmas.{writes_yes, no_line}
 
 -- If the streaming check shows that a value has the type of the table, then the value has the
 -- declared type and each closed instance of the type.
@@ -201,7 +201,7 @@ module _ (r : Bor Prepared) (limit : ℕ) (before : List ℕ) (output : List Out
   pub known_read : HasRead w (record values { ok = values.ok && next.ok; last = next.ok; count = values.count + 1 }) ((before ++ kept) ++ take n buffered) (output ++ next ∷ [])
   known_read =
       let trees : List Tree = h.trees ++ known.tree ∷ [] in
-      let leads : Leads limit [] values.reader = subst (λ prefix. Leads limit prefix values.reader) (nothing_taken w before output values h between) h.leads in record {
+      let leads : LeadsReader limit [] values.reader = subst (λ prefix. LeadsReader limit prefix values.reader) (nothing_taken w before output values h between) h.leads in record {
         ready = h.ready;
         trees = trees;
         prefix = [];
@@ -323,7 +323,7 @@ module _ (e : Edits) (limit : ℕ) (taken : List ℕ) (output : List Output) (va
   -- If an unchanged value was written, then the reader waits for the next value.
   pub left_read : HasRead value_task (record values { last = true; count = values.count + 1 }) (taken ++ take n buffered) (output ++ write_output ∷ [])
   left_read =
-      let leads : Leads limit [] values.reader = subst (λ prefix. Leads limit prefix values.reader) (nothing_taken value_task taken output values h between) h.leads in record {
+      let leads : LeadsReader limit [] values.reader = subst (λ prefix. LeadsReader limit prefix values.reader) (nothing_taken value_task taken output values h between) h.leads in record {
         ready = h.ready;
         trees = h.trees ++ seen.tree ∷ [];
         prefix = [];

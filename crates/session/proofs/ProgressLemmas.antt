@@ -2,17 +2,17 @@
 use Rattle.std.proofs.Common.{◌≡◌, ◌⊎◌, ⊎_elim, ℕ, ◌+◌, ◌^◌, ◌<◌, ◌==◌, Bool, true, false, List, [], ◌∷◌, ◌++◌, length, take, Result, Ok, Err, inl, inr, refl, sym, ap, ◌∙◌, subst, append_assoc, append-nil, length-append, take_all, arith}
 use Rattle.std.specs.Bool.{MatchBool}
 use Rattle.std.specs.Borrow.{Bor}
-use Rattle.base_io.specs.State.{ByteState, Change, change}
+use Rattle.base_io.specs.StreamState.{ByteState, Change, change}
 use Rattle.base_data.specs.model.Bytes.{AreBytes}
 use Rattle.marshal_spec.specs.format.Prefix.{IsPrefix}
-use Rattle.cert_format.proofs.HeadLemmas.{no_bytes, some_bytes}
+use Rattle.cert_format.proofs.CertificateHeadLemmas.{no_bytes, some_bytes}
 use Rattle.types_table.specs.type_table.Made.{table_of}
-use Rattle.cli_errors.specs.declared.exit.Error.{Error}
-use Rattle.cli_errors.specs.declared.exit.Error.TheVariants as aborts
+use Rattle.cli_errors.specs.declared.exit_line.Error.{Error}
+use Rattle.cli_errors.specs.declared.exit_line.Error.TheVariants as aborts
 use Rattle.cli_errors.specs.Exits.{IsOrMemory}
 use Rattle.run_spec.specs.runs.Account.{HaveNoExit}
 use Rattle.run_spec.specs.runs.Commands.{Commands}
-use Rattle.run_spec.proofs.runs.WriteLemmas.{writes_nothing}
+use Rattle.run_spec.proofs.runs.RunWriteLemmas.{writes_nothing}
 use Rattle.run_loop.specs.work.Works.{Has, AbortsIn, Feeds, WritesLast}
 use Rattle.run_spec.specs.value_commands.Tasks.{commands}
 use Rattle.cli_spec.specs.Outcome.{Output}
@@ -21,21 +21,21 @@ use Rattle.cli_spec.specs.declared.exit.Exit.{Exit}
 use Rattle.cli_spec.specs.declared.exit.Exit.TheVariants.{Value as value, Memory as out_of_memory}
 use Rattle.run_types.specs.Language.{declared_types}
 use Rattle.run_types.specs.declared.requested.Prepared.{Prepared}
-use Rattle.check_stream.specs.declared.chunks.stream_check.StreamCheck.{StreamCheck}
-use Rattle.check_stream.specs.chunks.StreamCheck.{IsStreamCheck}
-use Rattle.session.specs.declared.values.Values.{Values}
-use Rattle.session.specs.declared.values.ValueTask.{ValueTask}
-use Rattle.session.specs.declared.values.ValueTask.TheVariants as value_tasks
-use Rattle.session.specs.declared.edit.Edits.{Edits}
-use Rattle.session.specs.declared.verdict.Query.TheVariants as queries
-use Rattle.session.specs.declared.verdict.Printing.TheVariants as printings
+use Rattle.check_stream.specs.declared.chunk_check.stream_check.StreamCheck.{StreamCheck}
+use Rattle.check_stream.specs.chunk_check.StreamCheck.{IsStreamCheck}
+use Rattle.session.specs.declared.input_values.Values.{Values}
+use Rattle.session.specs.declared.input_values.ValueTask.{ValueTask}
+use Rattle.session.specs.declared.input_values.ValueTask.TheVariants as value_tasks
+use Rattle.session.specs.declared.edit_lines.Edits.{Edits}
+use Rattle.session.specs.declared.value_output.Query.TheVariants as queries
+use Rattle.session.specs.declared.value_output.Printing.TheVariants as printings
 use Rattle.session.specs.FastCheck.{IsBetween, Later, verdict_value_task}
-use Rattle.session.specs.Progress.{IsChecked, HasTaken}
-use Rattle.session.specs.Values.{MayTake, HasRead, task_of, word_limit}
+use Rattle.session.specs.CheckProgress.{IsChecked, HasTaken}
+use Rattle.session.specs.InputValues.{MayTake, HasRead, task_of, word_limit}
 use Rattle.marshal_read.specs.declared.reader.Reader.{Reader}
 use Rattle.marshal_read.specs.declared.reader.Fed.{Fed}
 use Rattle.marshal_read.specs.Reader.{Feeds as FeedsReader}
-use Rattle.session.proofs.ReadLemmas.{holds, prefix_read}
+use Rattle.session.proofs.SessionReadLemmas.{holds, prefix_read}
 use Rattle.session.proofs.FastCheckLemmas.{holds_kept, ends_kept}
 
 -- If `Feeds` holds, then `Feeds` holds for a stronger condition before the call and a weaker

@@ -11,19 +11,19 @@ use Rattle.run_spec.specs.runs.Commands.{Commands}
 use Rattle.run_spec.specs.runs.RunSpec.{RunSpec}
 use Rattle.run_spec.specs.value_commands.Tasks.{commands}
 use Rattle.run_spec.specs.command_sum.CommandSum.{command_sum}
-use Rattle.cmd_build.specs.spec.Texts.{building}
+use Rattle.cmd_build.specs.spec.InputTexts.{building}
 use Rattle.cmd_gen.specs.spec.GenSpec.{Making, gen_spec}
 use Rattle.cmd_verify.specs.spec.Verification.{Verification}
 use Rattle.cmd_certify.specs.spec.Certification.{Certification}
 use Rattle.cmd_scan.specs.spec.Searching.{searching}
-use Rattle.cmd_build.specs.command.Lines.{declared_texts}
+use Rattle.cmd_build.specs.command.InputLines.{declared_texts}
 use Rattle.run_types.specs.Language.{TypeOver, declared_types}
-use Rattle.opt_skip_only.specs.skip_spec.Asked.{passed_by}
-use Rattle.opt_skip_only.specs.skip_spec.Skipping.{Passed, skipping}
-use Rattle.opt_skip_only.specs.only_spec.Asked.{picked_by}
+use Rattle.opt_skip_only.specs.skip_spec.SkipRequests.{passed_by}
+use Rattle.opt_skip_only.specs.skip_spec.Skipping.{SkippedBytes, skipping}
+use Rattle.opt_skip_only.specs.only_spec.OnlyRequests.{picked_by}
 use Rattle.opt_skip_only.specs.only_spec.OnlyCommand.{only_command}
-pub use Rattle.cmd_verify.specs.command.Reading.{on_certificates, on_certificates_after}
-pub use Rattle.cmd_certify.specs.command.Certified.{on_certified, on_certified_after}
+pub use Rattle.cmd_verify.specs.command.VerifyProgress.{on_certificates, on_certificates_after}
+pub use Rattle.cmd_certify.specs.command.CertifiedOutput.{on_certified, on_certified_after}
 
 -- The command sets: the commands on values without options, with `--only`, and with `--only` and
 -- `--skip`, and the commands `build`, `scan` and `gen`.
@@ -33,7 +33,7 @@ on_values = commands declared_types
 abbrev pub on_values_picked : Commands (Option ℕ × Task TypeOver ScriptLine)
 on_values_picked = only_command picked_by on_values
 
-abbrev pub on_values_after : Commands (Passed × (Option ℕ × Task TypeOver ScriptLine))
+abbrev pub on_values_after : Commands (SkippedBytes × (Option ℕ × Task TypeOver ScriptLine))
 on_values_after = skipping passed_by on_values_picked
 
 abbrev pub on_texts : Commands TypeOver
@@ -47,21 +47,21 @@ on_made = gen_spec declared_types
 
 -- The sum of the commands on values and on texts.
 abbrev pub ActOnValuesOrTexts : Type 0
-ActOnValuesOrTexts = (Passed × (Option ℕ × Task TypeOver ScriptLine)) ⊎ TypeOver
+ActOnValuesOrTexts = (SkippedBytes × (Option ℕ × Task TypeOver ScriptLine)) ⊎ TypeOver
 
 abbrev pub on_values_or_texts : Commands ActOnValuesOrTexts
 on_values_or_texts = command_sum on_values_after on_texts
 
 -- The sum of all commands on the values or lines of the input, except `check --cert`.
 abbrev pub ActOnOthers : Type 0
-ActOnOthers = ActOnValuesOrTexts ⊎ (Passed × Verification TypeOver Section)
+ActOnOthers = ActOnValuesOrTexts ⊎ (SkippedBytes × Verification TypeOver Section)
 
 abbrev pub on_others : Commands ActOnOthers
 on_others = command_sum on_values_or_texts on_certificates_after
 
 -- The sum of all commands on the values or lines of the input.
 abbrev pub ActOnItems : Type 0
-ActOnItems = ActOnOthers ⊎ (Passed × Certification TypeOver)
+ActOnItems = ActOnOthers ⊎ (SkippedBytes × Certification TypeOver)
 
 abbrev pub on_items : Commands ActOnItems
 on_items = command_sum on_others on_certified_after

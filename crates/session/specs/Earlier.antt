@@ -8,7 +8,7 @@ use Rattle.text_path.specs.Uses.{CopiesFrom, IsLastUse}
 use Rattle.text_path.specs.declared.edits.Action.{Action}
 use Rattle.text_path.specs.declared.edits.Action.TheVariants as actions
 use Rattle.text_path.specs.declared.edits.ScriptLine.{ScriptLine}
-use Rattle.marshal_read.specs.declared.value.Value.{Value}
+use Rattle.marshal_read.specs.declared.returned_value.Value.{Value}
 use Rattle.session.specs.declared.earlier.Earlier.{Earlier}
 
 -- The kept value is the value with number `number`, edited by its lines.

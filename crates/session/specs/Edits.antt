@@ -14,20 +14,20 @@ use Rattle.edit_values.specs.EditedValues.{Edited}
 use Rattle.edit_values.specs.Grafts.{Other}
 use Rattle.base_data.specs.lines.Lines.{position_on}
 use Rattle.edit_values.specs.Reasons.{Reason, reason_text}
-use Rattle.check_fault.specs.Text.{text_at}
-use Rattle.base_io.specs.State.{ByteState, Change}
+use Rattle.check_fault.specs.FaultText.{text_at}
+use Rattle.base_io.specs.StreamState.{ByteState, Change}
 use Rattle.text_path.specs.declared.edits.ScriptLine.{ScriptLine}
-use Rattle.marshal_read.specs.declared.value.Value.{Value}
+use Rattle.marshal_read.specs.declared.returned_value.Value.{Value}
 use Rattle.cli_spec.specs.Outcome.{Unedited, line_past}
 use Rattle.cli_spec.specs.declared.exit.Exit.{Exit}
 use Rattle.cli_spec.specs.declared.exit.Exit.TheVariants.{Script as script_line}
-use Rattle.session.specs.declared.edit.Edits.{Edits}
-use Rattle.cli_errors.specs.declared.exit.Error.{Error}
-use Rattle.cli_errors.specs.declared.exit.Error.TheVariants as aborts
+use Rattle.session.specs.declared.edit_lines.Edits.{Edits}
+use Rattle.cli_errors.specs.declared.exit_line.Error.{Error}
+use Rattle.cli_errors.specs.declared.exit_line.Error.TheVariants as aborts
 use Rattle.run_types.specs.declared.requested.Prepared.{Prepared}
 use Rattle.run_types.specs.Language.{declared_types, IsBytesLine, lines_of_value}
-use Rattle.run_types.specs.Types.{type_over}
-use Rattle.run_types.specs.Bytes.{WritesAnswer}
+use Rattle.run_types.specs.RequestedTexts.{type_over}
+use Rattle.run_types.specs.ValueBytes.{WritesAnswer}
 use Rattle.run_types.specs.Checked.{OrMemory}
 
 -- ---- lines

@@ -5,7 +5,7 @@ use Rattle.std.specs.Borrow.{Bor}
 use Rattle.marshal_spec.specs.format.Tree.{Tree, root, objects_of}
 use Rattle.marshal_spec.specs.format.Encoded.{EncodedUnder}
 use Rattle.marshal_spec.specs.format.Canonical.{canon}
-use Rattle.marshal_read.specs.Reader.{Leads, EndsInput}
+use Rattle.marshal_read.specs.Reader.{LeadsReader, EndsInput}
 use Rattle.cli_spec.specs.Outcome.{Output, the_verdict, line}
 use Rattle.run_loop.specs.work.Works.{Has}
 use Rattle.types_spec.specs.types.Equal.{declared_shapes}
@@ -13,22 +13,22 @@ use Rattle.types_spec.specs.types.Table.{Table}
 use Rattle.types_spec.specs.types.Typing.{HasType}
 use Rattle.types_theory.specs.type_variables.TypeVariables.{HasEachInstance}
 use Rattle.types_table.specs.type_table.Made.{table_of}
-use Rattle.check_stream.specs.declared.chunks.stream_check.StreamCheck.{StreamCheck}
-use Rattle.check_stream.specs.chunks.StreamCheck.{IsStreamCheck}
+use Rattle.check_stream.specs.declared.chunk_check.stream_check.StreamCheck.{StreamCheck}
+use Rattle.check_stream.specs.chunk_check.StreamCheck.{IsStreamCheck}
 use Rattle.run_types.specs.Language.{OutputsLine, lines_of_value}
-use Rattle.run_types.specs.Types.{type_over}
+use Rattle.run_types.specs.RequestedTexts.{type_over}
 use Rattle.run_types.specs.declared.requested.Prepared.{Prepared}
 use Rattle.session.specs.Earlier.{IsUsedUpTo}
-use Rattle.session.specs.declared.edit.Edits.{Edits}
+use Rattle.session.specs.declared.edit_lines.Edits.{Edits}
 use Rattle.session.specs.declared.fast_check.FastResult.{FastResult}
 use Rattle.session.specs.declared.fast_check.FastResult.TheVariants as seen
 use Rattle.session.specs.declared.fast_check.Unchanged.{Unchanged}
 use Rattle.session.specs.declared.fast_check.Unchanged.TheVariants as unchanged
-use Rattle.session.specs.declared.values.Values.{Values}
-use Rattle.session.specs.declared.values.ValueTask.{ValueTask}
-use Rattle.session.specs.declared.values.ValueTask.TheVariants as value_tasks
-use Rattle.session.specs.declared.verdict.Query.TheVariants as queries
-use Rattle.session.specs.declared.verdict.Printing.TheVariants as printings
+use Rattle.session.specs.declared.input_values.Values.{Values}
+use Rattle.session.specs.declared.input_values.ValueTask.{ValueTask}
+use Rattle.session.specs.declared.input_values.ValueTask.TheVariants as value_tasks
+use Rattle.session.specs.declared.value_output.Query.TheVariants as queries
+use Rattle.session.specs.declared.value_output.Printing.TheVariants as printings
 
 -- The output for a value that has the type.
 abbrev pub yes : Output
@@ -83,7 +83,7 @@ verdict_value_task r limit = value_tasks.Print (printings.Report r queries.Verdi
 -- The reader waits for a value, and has taken no byte of the value.
 abbrev pub IsBetween : Values → Type 0
 IsBetween values =
-    (limit : ℕ) (taken : List ℕ) → Leads limit taken values.reader
+    (limit : ℕ) (taken : List ℕ) → LeadsReader limit taken values.reader
     → EndsInput {U = Unit {0}} limit taken (Ok tt)
 
 -- ---- a value that is written unchanged

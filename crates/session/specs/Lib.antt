@@ -1,11 +1,11 @@
-pub mod Verdict
+pub mod ValueOutput
 pub mod Copied
 pub mod Earlier
 pub mod Edits
 pub mod FastCheck
 pub mod Reporting
-pub mod Values
-pub mod Progress
-pub mod Asked
+pub mod InputValues
+pub mod CheckProgress
+pub mod AskedOutput
 pub mod OutputOfValue
 pub mod All

@@ -4,11 +4,11 @@ use Rattle.cli_spec.specs.declared.exit.Exit.TheVariants.{Memory as out_of_memor
 use Rattle.base_data.specs.declared.model.value.Val.{Val}
 use Rattle.base_data.specs.declared.model.value.Obj.{Obj}
 use Rattle.base_io.specs.Sink.{Writes, WritesPart}
-use Rattle.base_io.specs.State.{ByteState, Change}
-use Rattle.cli_errors.specs.declared.exit.Error.{Error}
-use Rattle.cli_errors.specs.declared.exit.Error.TheVariants as aborts
-use Rattle.session.specs.declared.verdict.Printing.{Printing}
-use Rattle.session.specs.Verdict.{IsOutputOf}
+use Rattle.base_io.specs.StreamState.{ByteState, Change}
+use Rattle.cli_errors.specs.declared.exit_line.Error.{Error}
+use Rattle.cli_errors.specs.declared.exit_line.Error.TheVariants as aborts
+use Rattle.session.specs.declared.value_output.Printing.{Printing}
+use Rattle.session.specs.ValueOutput.{IsOutputOf}
 
 -- If the result is `Ok`, the text is written, and the result states whether the value is ok. If the
 -- result is `Err`, memory ran out and nothing is written, or writing the output fails.

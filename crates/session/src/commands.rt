@@ -4,9 +4,9 @@
 
 ghost use Rattle.run_spec.specs.exit_causes.Causes.{Causes as CausesBy};
 ghost use Rattle.run_spec.specs.exit_statuses.Tables.{values_tables};
-ghost use Rattle.opt_skip_only.specs.skip_spec.Tables.{skipping_tables};
-ghost use Rattle.opt_skip_only.specs.only_spec.Tables.{only_command_tables};
-ghost use Rattle.run_spec.specs.runs.Causes.{EnvironmentCauses};
+ghost use Rattle.opt_skip_only.specs.skip_spec.SkipTables.{skipping_tables};
+ghost use Rattle.opt_skip_only.specs.only_spec.OnlyTables.{only_command_tables};
+ghost use Rattle.run_spec.specs.runs.RunCauses.{EnvironmentCauses};
 ghost use Rattle.run_spec.specs.runs.CommandLaws.{HaveOneOutcome, ArePromised, Follow};
 ghost use Rattle.run_spec.specs.runs.Lawful.{AreLawful, AreInTurns};
 ghost use Rattle.run_types.specs.Language.{declared_types};
@@ -15,13 +15,13 @@ ghost use Rattle.session.specs.All.{on_values, on_values_after, on_texts, on_mad
 ghost use Rattle.session.specs.All.{on_certificates_after, on_certified_after, on_positions};
 ghost use Rattle.session.specs.All.{all_commands, IsOfValues, IsOfTexts, IsOfMade};
 ghost use Rattle.session.specs.All.{IsOfCertificates, IsOfSections, IsOfPositions, IsPart};
-ghost use Rattle.cmd_build.specs.command.Lines.{declared_texts};
+ghost use Rattle.cmd_build.specs.command.InputLines.{declared_texts};
 ghost use Rattle.cmd_build.specs.spec.ExitStatuses.{texts_tables};
-ghost use Rattle.cmd_gen.specs.spec.ExitStatuses.{Causes as CausesOfMade};
+ghost use Rattle.cmd_gen.specs.spec.ExitStatuses.{GenCauses as CausesOfMade};
 ghost use Rattle.cmd_verify.specs.spec.ExitStatuses.{certificate_tables};
-ghost use Rattle.cmd_verify.specs.command.Shown.{reads_sections, declared_sections};
+ghost use Rattle.cmd_verify.specs.command.VerifiedSections.{reads_sections, declared_sections};
 ghost use Rattle.cmd_certify.specs.spec.ExitStatuses.{certifying_tables};
-ghost use Rattle.cmd_certify.specs.command.Certified.{declared_certificates};
+ghost use Rattle.cmd_certify.specs.command.CertifiedOutput.{declared_certificates};
 ghost use Rattle.cmd_scan.specs.spec.ExitStatuses.{searching_tables};
 
 use cmd_build::command::laws::{DeclaredTexts, declared_texts_are_read_once};

@@ -2,8 +2,8 @@
 
 ghost use Rattle.std.specs.Prelude.{◌≡◌, ◌<◌, ◌++◌, ◌∷◌, [], Some, Any, OnOk, map, vec_len};
 ghost use Rattle.std.specs.Vec.{vec_capacity};
-ghost use Rattle.text_path.specs.Order.{lines_of};
-ghost use Rattle.marshal_read.specs.Reader.{Leads};
+ghost use Rattle.text_path.specs.LineOrder.{lines_of};
+ghost use Rattle.marshal_read.specs.Reader.{LeadsReader};
 ghost use Rattle.session.specs.Earlier.{AreInOrder, AreNamed, IsThere, after_action, after_copy};
 ghost use Rattle.session.specs.Earlier.{all_after, with_made};
 
@@ -120,7 +120,7 @@ pub fn next_reader(
     requires room { number < last → vec_len kept.old < vec_capacity kept.old }
     requires order { AreInOrder kept.old.items }
     requires named { AreNamed number (lines_of number script.now.lines) kept.old.items }
-    ensures leads { Leads limit [] result }
+    ensures leads { LeadsReader limit [] result }
     ensures kept { kept.new.items
         ≡ with_made (all_after number kept.old.items)
         (record { number = number; last = last; value = Some value }) }

@@ -4,15 +4,15 @@
 
 ghost use Rattle.std.specs.Bool.{OnTrue};
 ghost use Rattle.std.specs.Prelude.{◌≡◌, ◌≤◌, ◌<◌, ℕ, List, [], length, take, IfOk, OnOk};
-ghost use Rattle.check_stream.specs.chunks.StreamCheck.{IsStreamCheck};
+ghost use Rattle.check_stream.specs.chunk_check.StreamCheck.{IsStreamCheck};
 ghost use Rattle.types_table.specs.type_table.Made.{table_of};
-ghost use Rattle.check_stream.specs.search.Find.{IsFound};
+ghost use Rattle.check_stream.specs.mismatch_search.Find.{IsFound};
 ghost use Rattle.session.specs.FastCheck.{IsFastCheck, IsUnchangedFastCheck, IsVerdictOn, no_in};
 ghost use Rattle.marshal_write.specs.canonical_check.Canonicity.{IsCanonicalBytes};
 
 use base_data::model::Memory;
-use check_stream::chunks::{ChunkResult, StreamCheck};
-use check_stream::search::FoundMismatch;
+use check_stream::chunk_check::{ChunkResult, StreamCheck};
+use check_stream::mismatch_search::FoundMismatch;
 use marshal_write::canonical_check::is_canonical_bytes;
 use run_types::{Requested, write_missed_no};
 use std::alloc::Global;

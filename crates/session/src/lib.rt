@@ -22,15 +22,15 @@
 //! `thm_roundtrip` and `thm_certificates`. Time and memory are not promised.
 #![tactic(auto)]
 
-mod build;
+mod build_command;
 mod commands;
 mod earlier;
-mod edit;
+mod edit_lines;
 mod fast_check;
+mod input_values;
 mod session_state;
 mod top;
-mod values;
-mod verdict;
+mod value_output;
 
 pub use commands::{
     all_commands_are_lawful, all_commands_have_one_outcome, all_commands_have_parts,

@@ -2,27 +2,27 @@
 
 ghost use Rattle.std.specs.Prelude.{List, ℕ};
 ghost use Rattle.cli_spec.specs.Outcome.{Asks, asked_type, get as get_of, edit as edit_of};
-ghost use Rattle.base_io.specs.State.{FilesState, Change, change};
+ghost use Rattle.base_io.specs.StreamState.{FilesState, Change, change};
 ghost use Rattle.run_spec.specs.runs.Call.{call};
 ghost use Rattle.session.specs.Copied.{LeavesCanonical};
-ghost use Rattle.session.specs.Asked.{AsksToPrint, AsksForLines};
+ghost use Rattle.session.specs.AskedOutput.{AsksToPrint, AsksForLines};
 ghost use Rattle.run_types.specs.Language.{declared_types};
 ghost use Rattle.run_spec.specs.runs.Account.{Account};
-ghost use Rattle.run_spec.specs.runs.Causes.{EnvironmentCauses};
+ghost use Rattle.run_spec.specs.runs.RunCauses.{EnvironmentCauses};
 ghost use Rattle.run_spec.specs.runs.RunSpec.{RunSpec};
 ghost use Rattle.run_spec.specs.exit_statuses.Tables.{values_tables};
 ghost use Rattle.run_spec.specs.exit_causes.Causes.{Causes as CausesBy};
 ghost use Rattle.cmd_build.specs.spec.ExitStatuses.{texts_tables};
-ghost use Rattle.cmd_build.specs.command.Lines.{declared_texts};
-ghost use Rattle.cmd_gen.specs.spec.ExitStatuses.{Causes as CausesOfMade};
+ghost use Rattle.cmd_build.specs.command.InputLines.{declared_texts};
+ghost use Rattle.cmd_gen.specs.spec.ExitStatuses.{GenCauses as CausesOfMade};
 ghost use Rattle.cmd_verify.specs.spec.ExitStatuses.{certificate_tables};
-ghost use Rattle.cmd_verify.specs.command.Shown.{reads_sections, declared_sections};
+ghost use Rattle.cmd_verify.specs.command.VerifiedSections.{reads_sections, declared_sections};
 ghost use Rattle.cmd_certify.specs.spec.ExitStatuses.{certifying_tables};
-ghost use Rattle.cmd_certify.specs.command.Certified.{declared_certificates};
+ghost use Rattle.cmd_certify.specs.command.CertifiedOutput.{declared_certificates};
 ghost use Rattle.cmd_scan.specs.spec.ExitStatuses.{searching_tables};
 ghost use Rattle.opt_skip_only.specs.skip.SkipCommand.{passed_of};
-ghost use Rattle.opt_skip_only.specs.skip_spec.Tables.{skipping_tables};
-ghost use Rattle.opt_skip_only.specs.only_spec.Tables.{only_command_tables};
+ghost use Rattle.opt_skip_only.specs.skip_spec.SkipTables.{skipping_tables};
+ghost use Rattle.opt_skip_only.specs.only_spec.OnlyTables.{only_command_tables};
 ghost use Rattle.session.specs.All.{on_values, on_values_after, on_texts, on_certificates_after};
 ghost use Rattle.session.specs.All.{on_certified_after, on_positions, all_commands, IsOfValues};
 ghost use Rattle.session.specs.All.{IsOfTexts, IsOfMade, IsOfCertificates, IsOfSections};
@@ -30,24 +30,24 @@ ghost use Rattle.session.specs.All.{IsOfPositions, AskOnly};
 ghost use Rattle.run_loop.specs.work.Reported.{HasAccount};
 ghost use Rattle.session.specs.Reporting.{AsksToReport, AsksToEdit};
 ghost use Rattle.text_path.specs.ScriptAnswer.{AreInTime};
-ghost use Rattle.session.specs.Values.{IsReadyValueTask, task_of};
-ghost use Rattle.session.specs.Verdict.{query_of};
+ghost use Rattle.session.specs.InputValues.{IsReadyValueTask, task_of};
+ghost use Rattle.session.specs.ValueOutput.{query_of};
 ghost use Rattle.cli_args.specs.Requests.{texts, request_of};
 
-use crate::build::build;
+use crate::build_command::build;
 use crate::commands::{
     Scans, all_commands_have_parts, all_commands_keep_run_spec,
     statuses_of_certificates_have_causes, statuses_of_made_have_causes,
     statuses_of_positions_have_causes, statuses_of_sections_have_causes,
     statuses_of_texts_have_causes, statuses_of_values_have_causes, values_have_one_outcome,
 };
-use crate::edit::Edits;
+use crate::edit_lines::Edits;
+use crate::input_values::ValueTask;
 use crate::session_state::SessionState;
-use crate::values::ValueTask;
-use crate::verdict::{Printing, Query};
+use crate::value_output::{Printing, Query};
 use base_io::{Opener, Sink, Source};
 use cli_args::{ArgumentsError, Request, read_arguments};
-use cli_errors::exit::report_exit;
+use cli_errors::exit_line::report_exit;
 use cli_spec::exit::Exit;
 use cli_spec::read_options::ReadOptions;
 use cli_spec::status::Status;

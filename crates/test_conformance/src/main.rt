@@ -18,17 +18,17 @@
 //! (`tools`). No crate depends on the program.
 #![tactic(auto)]
 
-mod again;
-mod compare;
-mod prefixes;
-mod rows;
-mod runs;
-mod steps;
+mod check_steps;
+mod declaration_answers;
+mod prefix_answers;
+mod result_text;
+mod rewrites;
 mod streams;
+mod table_rows;
 mod tables;
-mod texts;
-mod values;
+mod whole_runs;
 mod written;
+mod written_values;
 
 use std::io;
 use std::io::ErrorKind;
@@ -40,14 +40,14 @@ fn answer(rt: &HostRuntime, question: &str) -> io::Result<()> {
     };
     match kind {
         "stream" => streams::answer(rt, rest),
-        "value" => values::answer(rt, rest),
-        "again" => again::answer(rt, rest),
-        "prefixes" => prefixes::answer(rt, rest),
-        "decls" => texts::answer(rt, rest),
-        "type" => texts::answer_type(rt, rest),
+        "value" => written_values::answer(rt, rest),
+        "again" => rewrites::answer(rt, rest),
+        "prefixes" => prefix_answers::answer(rt, rest),
+        "decls" => declaration_answers::answer(rt, rest),
+        "type" => declaration_answers::answer_type(rt, rest),
         "table" => tables::answer(rt, rest),
-        "steps" => steps::answer(rt, rest),
-        "run" => runs::answer(rt, rest),
+        "steps" => check_steps::answer(rt, rest),
+        "run" => whole_runs::answer(rt, rest),
         _ => Err(ErrorKind::InvalidInput.into()),
     }
 }

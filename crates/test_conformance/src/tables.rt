@@ -2,9 +2,9 @@
 //! its shape over indices, the first type that is equal to it, and its names.
 
 ghost use Rattle.std.specs.Prelude.{◌<◌, length, IfSome};
-ghost use Rattle.types_spec.specs.types.Accepted.{AreWellFormed, AreSound, IsSoundType};
+ghost use Rattle.types_spec.specs.types.WellFormed.{AreWellFormed, AreSound, IsSoundType};
 
-use crate::rows::{TypeRow, write, write_number, write_row};
+use crate::table_rows::{TypeRow, write, write_number, write_row};
 use crate::written::write_type;
 use base_data::model::Memory;
 use base_data::model::list::List;

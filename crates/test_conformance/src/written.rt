@@ -1,6 +1,6 @@
 //! Prints a type given as a list of nodes.
 
-use crate::rows::write;
+use crate::table_rows::write;
 use base_data::model::Memory;
 use std::alloc::Global;
 use types_spec::types::ty::TypeTreeNode;

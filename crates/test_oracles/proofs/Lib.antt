@@ -1,3 +1,3 @@
-pub mod PrefixLemmas
-pub mod GraphLemmas
+pub mod OraclePrefixLemmas
+pub mod OracleGraphLemmas
 pub mod TokenLemmas

@@ -3,8 +3,8 @@
 use Rattle.std.specs.Prelude.{ℕ, ◌≡◌, List, map}
 use Rattle.marshal_spec.specs.format.Tree.{Tree, tokens}
 use Rattle.marshal_spec.specs.format.Judgement.{prefix, value, refused, Judges}
-use Rattle.test_oracles.specs.declared.value.Judgement.{Judgement}
-use Rattle.test_oracles.specs.declared.value.Judgement.TheVariants.{Prefix, Value, Refused}
+use Rattle.test_oracles.specs.declared.judgement.Judgement.{Judgement}
+use Rattle.test_oracles.specs.declared.judgement.Judgement.TheVariants.{Prefix, Value, Refused}
 use Rattle.test_oracles.specs.Token.{token_of}
 use Rattle.test_oracles.specs.Refusal.{refusal_of}
 

@@ -23,16 +23,16 @@ mod code;
 mod context;
 mod cut;
 mod header;
+mod judgement;
 mod prefix;
 mod raw;
 mod refusal;
 mod step;
 mod token;
 mod token_step;
-mod value;
 mod words;
 
 pub use build::{Graph, graph_of};
+pub use judgement::{Judgement, judge};
 pub use refusal::Refusal;
 pub use token::Token;
-pub use value::{Judgement, judge};

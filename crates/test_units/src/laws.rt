@@ -10,8 +10,8 @@ use types_theory::equality::classes::{
     classes_are_of_equal_types, splits_keep_and_settle, stable_classes_are_equal,
 };
 use types_theory::equality::equal::{equal_types_mean_the_same, heads_are_found};
-use types_theory::equality::sound::{heads_commute_with_instances, reached_types_are_sound};
-use types_theory::equality::table::tables_are_lawful;
+use types_theory::equality::sound_types::{heads_commute_with_instances, reached_types_are_sound};
+use types_theory::equality::table_types::tables_are_lawful;
 use types_theory::table::least_faults_have_least_ways;
 use types_theory::typing::{checks_take_few_steps, searches_find_the_least};
 use types_wellformed::accepted::{

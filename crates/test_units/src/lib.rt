@@ -4,12 +4,13 @@
 //! crate. Each test compares a result with test vectors from outside the repository, or calls once
 //! what no stored question of `test_conformance` reaches.
 //!
-//! - `bytes`: Codes, headers, custom blocks, hashes of tags, heaps and readers.
-//! - `environment`: The implementations of `base_io`, the loop with the small commands, and the
-//!   writer.
+//! - `byte_format`: Codes, headers, custom blocks, hashes of tags, heaps and readers.
+//! - `environment_tests`: The implementations of `base_io`, the loop with the small commands, and
+//!   the writer.
 //! - `laws`: Calls of lemma functions, whose contracts are theorems.
 //! - `syntax`: Lexemes.
-//! - `values`: Arrays, doubles, certificates, printed atoms, graphs, and values checked from bytes.
+//! - `value_tests`: Arrays, doubles, certificates, printed atoms, graphs, and values checked from
+//!   bytes.
 //!
 //! Promises: nothing beyond the tests; the crate has no code outside the tests.
 //!
@@ -19,12 +20,12 @@
 #![tactic(auto)]
 
 #[cfg(test)]
-mod bytes;
+mod byte_format;
 #[cfg(test)]
-mod environment;
+mod environment_tests;
 #[cfg(test)]
 mod laws;
 #[cfg(test)]
 mod syntax;
 #[cfg(test)]
-mod values;
+mod value_tests;

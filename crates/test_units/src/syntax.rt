@@ -1,3 +1,3 @@
 //! Tests of lexemes.
 
-mod lexemes;
+mod lexeme_tests;

@@ -1,4 +1,4 @@
-pub mod PlainLemmas
-pub mod TimeLemmas
+pub mod DecimalScriptPlainLemmas
+pub mod DecimalScriptTimeLemmas
 pub mod LiteralLemmas
-pub mod ReadLemmas
+pub mod DecimalScriptReadLemmas

@@ -1,4 +1,4 @@
 pub mod decimal
 pub mod texts
 pub mod scripts
-pub mod readback
+pub mod decimal_readback

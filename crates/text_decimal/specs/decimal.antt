@@ -2,5 +2,5 @@ pub mod Limbs
 pub mod Doubles
 pub mod Layout
 pub mod Shortest
-pub mod Reading
+pub mod DecimalReading
 pub mod Laws

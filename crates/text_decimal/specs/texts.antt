@@ -1,3 +1,3 @@
 pub mod Texts
-pub mod Plain
+pub mod PlainTexts
 pub mod Laws

@@ -4,18 +4,18 @@
 //! (`DoublesAreReadBack`).
 
 mod big;
+mod decimal_parser;
+mod decimal_printer;
+mod decimal_search;
+mod decimal_text;
 mod hint;
 mod laws;
-mod layout;
 mod nearest;
 mod raised;
-mod read;
 mod reads;
-mod search;
 mod shortest;
 mod size;
-mod write;
 
+pub use decimal_parser::read_decimal;
+pub use decimal_printer::write_double;
 pub use laws::{doubles_are_read_back, doubles_have_one_text};
-pub use read::read_decimal;
-pub use write::write_double;

@@ -7,7 +7,7 @@
 //!   (`find_decimals`), the plain text that it stands for (`write_plain_text`), and the positions
 //!   in both.
 //! - `scripts`: Scripts of edits in which decimals stand for doubles (`read_given_script`).
-//! - `readback`: The text of a value with decimals stands for its plain text.
+//! - `decimal_readback`: The text of a value with decimals stands for its plain text.
 //!
 //! Promises: `doubles_have_one_text`: the text of a double is a function of its bits.
 //! `doubles_are_read_back`: reading the text of a double returns the double with all its bits.
@@ -22,6 +22,6 @@
 #![tactic(auto)]
 
 pub mod decimal;
-pub mod readback;
+pub mod decimal_readback;
 pub mod scripts;
 pub mod texts;

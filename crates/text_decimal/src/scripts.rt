@@ -3,8 +3,8 @@
 //! `IsGivenAnswer`. The script's grammar is in `text_path`, the conversion of decimals in
 //! `texts`.
 
-mod given;
-mod plain;
-mod read;
+mod decimal_script_parser;
+mod given_offsets;
+mod plain_scripts;
 
-pub use read::read_given_script;
+pub use decimal_script_parser::read_given_script;

@@ -7,11 +7,11 @@ mod decimal_prefix;
 mod decimals;
 mod find;
 mod laws;
-mod plain;
+mod plain_texts;
 mod texts;
 
 pub use decimals::{Decimal, given_position};
 pub use find::{find_decimals, write_plain_text};
 pub use laws::{decimals_are_by_lexemes, decimals_stay_on_one_line, texts_are_read_back};
-pub use plain::write_plain;
+pub use plain_texts::write_plain;
 pub use texts::write_decimal_text;

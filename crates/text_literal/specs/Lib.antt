@@ -1,3 +1,3 @@
-pub mod grammar
+pub mod literal_grammar
 pub mod parser
-pub mod agreement
+pub mod table_agreement

@@ -1,13 +1,13 @@
 pub mod Starts
-pub mod Reading
+pub mod LiteralReading
 pub mod LiteralAnswers
 pub mod WorkedLiterals
 pub mod Pending
 pub mod NodesOf
-pub mod Leaves
+pub mod LiteralLeaves
 pub mod Openings
 pub mod Standing
-pub mod Ends
+pub mod SubtreeEnds
 pub mod Bits
 pub mod FieldNames
 pub mod Started

@@ -1,12 +1,14 @@
 //! Parses literals: texts of values, read at a type into a heap.
 //!
-//! - `grammar`: The syntax of literals, and the nodes of a literal in one array (`LiteralNode`),
-//!   parsed from lexemes (`read_literal_tree`) or from a text (`read_placed_tree`). The result of
-//!   `read_placed_tree` keeps only the positions of the text's lexemes.
+//! - `literal_grammar`: The syntax of literals, and the nodes of a literal in one array
+//!   (`LiteralNode`), parsed from lexemes (`read_literal_tree`) or from a text
+//!   (`read_placed_tree`). The result of `read_placed_tree` keeps only the positions of the text's
+//!   lexemes.
 //! - `parser`: What a literal is at a type: a value with its objects, or its first fault
 //!   (`read_literal`, `read_placed`, `LiteralFault`). The parser does not recurse along the
 //!   literal.
-//! - `agreement`: A literal means the same at an index of a table and at the type with this index.
+//! - `table_agreement`: A literal means the same at an index of a table and at the type with this
+//!   index.
 //!
 //! The crate promises:
 //! - `read_literal` appends the objects of the value that the lexemes denote at the type, and
@@ -26,6 +28,6 @@
 //! type (`check_heap`).
 #![tactic(auto)]
 
-pub mod agreement;
-pub mod grammar;
+pub mod literal_grammar;
 pub mod parser;
+pub mod table_agreement;

@@ -4,20 +4,20 @@
 
 mod block_stack;
 mod doubles;
-mod fault;
 mod fields;
 mod laws;
 mod leaf;
+mod literal_fault;
+mod literal_parts;
 mod literal_text;
+mod name_lists;
 mod named;
 mod opening;
 mod part;
-mod parts;
-mod read;
-mod rows;
 mod siblings;
 mod start;
+mod value_parser;
 
-pub use fault::LiteralFault;
 pub use laws::{one_literal_answer, worked_literals_fit};
-pub use read::{read_literal, read_placed};
+pub use literal_fault::LiteralFault;
+pub use value_parser::{read_literal, read_placed};

@@ -1,10 +1,10 @@
-pub mod OrderLemmas
+pub mod PathOrderLemmas
 pub mod UseLemmas
 pub mod PathTable
-pub mod AnswerLemmas
-pub mod ReadLemmas
+pub mod PathAnswerLemmas
+pub mod PathReadLemmas
 pub mod LineTable
-pub mod LineLemmas
+pub mod PathLineLemmas
 pub mod LineAnswers
-pub mod ScriptLemmas
-pub mod TimeLemmas
+pub mod PathScriptLemmas
+pub mod PathTimeLemmas

@@ -9,9 +9,9 @@ use Rattle.types_lex.specs.declared.lexeme.LexFault.{LexFault}
 use Rattle.types_lex.proofs.PartLaws.{has_one_outcome}
 use Rattle.types_parse.specs.grammar.Grammar.{Kinds}
 use Rattle.types_parse.specs.grammar.Refusals.{IsSyntax}
-use Rattle.types_parse.proofs.grammar.TableLemmas.{one_text}
+use Rattle.types_parse.proofs.grammar.TypeGrammarTableLemmas.{one_text}
 use Rattle.types_parse.proofs.grammar.LawLemmas.{text_or_syntax, no_syntax}
-use Rattle.types_parse.specs.grammar.Lexemes.{kinds_of, number}
+use Rattle.types_parse.specs.grammar.LexemeKinds.{kinds_of, number}
 use Rattle.types_parse.specs.parse.Parsed.{byte_of}
 use Rattle.types_parse.proofs.grammar.LexemeLemmas.{kinds_length}
 use Rattle.text_path.specs.PathGrammar.{path_kinds}

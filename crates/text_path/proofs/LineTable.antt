@@ -8,12 +8,12 @@ use Rattle.types_lex.specs.declared.lexeme.LexemeKind.TheVariants as kinds
 use Rattle.types_lex.specs.declared.lexeme.Symbol.TheVariants as symbols
 use Rattle.types_parse.specs.grammar.Grammar.{Kinds}
 use Rattle.types_parse.specs.grammar.Refusals.{open_after}
-use Rattle.types_parse.specs.grammar.Machine.{Leads, stop, go}
+use Rattle.types_parse.specs.grammar.TypeMachine.{Leads, stop, go}
 use Rattle.types_parse.proofs.grammar.MachineLemmas.{onward}
-use Rattle.types_parse.proofs.grammar.TableLemmas.{Adds, Completes, Reads}
+use Rattle.types_parse.proofs.grammar.TypeGrammarTableLemmas.{Adds, Completes, Reads}
 use Rattle.text_path.specs.PathGrammar.{path_kinds}
-use Rattle.types_parse.specs.grammar.Lexemes.{number_of, number}
-use Rattle.text_path.specs.Machine.{State, at, step, prefix, accepted}
+use Rattle.types_parse.specs.grammar.LexemeKinds.{number_of, number}
+use Rattle.text_path.specs.PathMachine.{PathState, at, step, prefix, accepted}
 use Rattle.text_path.specs.LineGrammar.{LineTree, set_line, link_line, unshare_line, graft_line, equals, assigned, line_kinds}
 use Rattle.text_path.specs.LineMachine.{LineState, reading, literal, line_start, valued, named_role, role_of, begun, is_equals, after_equals, with_other, along, state_of, line_step, role_kinds, line_prefix, ended, line_accepted, line_ends}
 use Rattle.text_path.specs.declared.line_prefix.Role.{Role}
@@ -36,28 +36,28 @@ zeros_append (x ∷ xs) ys = ap (λ rest. 0 ∷ rest) (zeros_append xs ys)
 
 -- ---- a path inside a line
 
-abbrev in_role : ℕ → Role → State → LineState
+abbrev in_role : ℕ → Role → PathState → LineState
 in_role value role (at path after_dot) = reading (prefixes.Steps value role path after_dot)
 
-equals_stops : (s next : State) → step s equals ≡ Some next → ⊥
+equals_stops : (s next : PathState) → step s equals ≡ Some next → ⊥
 equals_stops (at path true) next h = cc
 equals_stops (at path false) next h = cc
 
-no_equals : (s next : State) (kind : LexemeKind) → step s kind ≡ Some next → is_equals kind ≡ false
+no_equals : (s next : PathState) (kind : LexemeKind) → step s kind ≡ Some next → is_equals kind ≡ false
 no_equals s next (kinds.Symbol symbols.Equals) h = absurd (equals_stops s next h)
 no_equals s next kind h = refl
 
 module _ (value : ℕ) (role : Role) where
-  along_is : (next : State) → state_of (along value role (Some next)) ≡ Some (in_role value role next)
+  along_is : (next : PathState) → state_of (along value role (Some next)) ≡ Some (in_role value role next)
   along_is (at path after_dot) = refl
 
-  steps_on : (s next : State) (kind : LexemeKind) → step s kind ≡ Some next → line_step (in_role value role s) kind ≡ Some (in_role value role next)
+  steps_on : (s next : PathState) (kind : LexemeKind) → step s kind ≡ Some next → line_step (in_role value role s) kind ≡ Some (in_role value role next)
   steps_on (at path after_dot) next kind h =
       ap (λ b. state_of (if b then after_equals value role (accepted (at path after_dot)) else along value role (step (at path after_dot) kind)))
       (no_equals (at path after_dot) next kind h)
       ∙ ap (λ o. state_of (along value role o)) h ∙ along_is next
 
-  embedded : {s t : State} {xs : Kinds} {ds : List ℕ} → Leads step none s xs ds t → Leads line_step flat (in_role value role s) xs ds (in_role value role t)
+  embedded : {s t : PathState} {xs : Kinds} {ds : List ℕ} → Leads step none s xs ds t → Leads line_step flat (in_role value role s) xs ds (in_role value role t)
   embedded stop = stop
   embedded (go {s = s} {next = n} {kind = k} h l p) = go (steps_on s n k h) l (embedded p)
 
@@ -115,7 +115,7 @@ accepts (graft_line value path other source) = role_accepts value (roles.Part pa
 
 -- ---- the lexemes that a state has read
 
-ended_prefix : (value : ℕ) (role : Role) (s : State) (o : Option (List ℕ)) → accepted s ≡ o → (line : LineTree) → ended value role o ≡ Some line →
+ended_prefix : (value : ℕ) (role : Role) (s : PathState) (o : Option (List ℕ)) → accepted s ≡ o → (line : LineTree) → ended value role o ≡ Some line →
     line_kinds line ≡ number value ∷ (role_kinds role ++ prefix s)
 ended_prefix value role s None e line h = absurd (cc)
 ended_prefix value (roles.Source path) s (Some source) e line h =
@@ -201,10 +201,10 @@ equals_is (kinds.Symbol symbols.Equals) h = refl
 equals_is kind h = absurd (cc)
 
 module _ (value : ℕ) where
-  abbrev AddsIn : Role → State → LexemeKind → Option LineState → Type 0
+  abbrev AddsIn : Role → PathState → LexemeKind → Option LineState → Type 0
   AddsIn role s kind o = IfSome o (λ next. Adds line_prefix brackets (number value ∷ (role_kinds role ++ prefix s)) 0 kind next)
 
-  adds_equals : (role : Role) (s : State) (o : Option (List ℕ)) → accepted s ≡ o → AddsIn role s equals (state_of (after_equals value role o))
+  adds_equals : (role : Role) (s : PathState) (o : Option (List ℕ)) → accepted s ≡ o → AddsIn role s equals (state_of (after_equals value role o))
   adds_equals role s None e = tt
   adds_equals roles.Set s (Some path) e = record {
     prefixes = ap (λ xs. number value ∷ kinds.Lower (codes "set") ∷ (xs ++ equals ∷ [])) (path_table.accepted_prefix s path e);
@@ -231,7 +231,7 @@ module _ (value : ℕ) where
         opens = refl;
       })
 
-  adds_along : (role : Role) (s : State) (kind : LexemeKind) (o : Option State) → IfSome o (λ next. Adds prefix none (prefix s) 0 kind next) →
+  adds_along : (role : Role) (s : PathState) (kind : LexemeKind) (o : Option PathState) → IfSome o (λ next. Adds prefix none (prefix s) 0 kind next) →
       AddsIn role s kind (state_of (along value role o))
   adds_along role s kind None a = tt
   adds_along role s kind (Some (at path after_dot)) a = record {
@@ -240,7 +240,7 @@ module _ (value : ℕ) where
     opens = a.opens;
   }
 
-  adds_step : (role : Role) (s : State) (kind : LexemeKind) (b : Bool) → is_equals kind ≡ b →
+  adds_step : (role : Role) (s : PathState) (kind : LexemeKind) (b : Bool) → is_equals kind ≡ b →
       AddsIn role s kind (state_of (if b then after_equals value role (accepted s) else along value role (step s kind)))
   adds_step role s kind true h =
       subst (λ k. AddsIn role s k (state_of (after_equals value role (accepted s)))) (sym (equals_is kind h)) (adds_equals role s (accepted s) refl)
@@ -261,7 +261,7 @@ adds (literal value path read) kind = record {
 longer : (xs before rest last : Kinds) → xs ≡ before ++ rest → xs ++ last ≡ before ++ (rest ++ last)
 longer xs before rest last h = ap (λ ys. ys ++ last) h ∙ append_assoc before rest last
 
-completes_steps : (value : ℕ) (role : Role) (s : State) → Completes path_kinds (λ p. zeros (path_kinds p)) prefix none s →
+completes_steps : (value : ℕ) (role : Role) (s : PathState) → Completes path_kinds (λ p. zeros (path_kinds p)) prefix none s →
     (line : LineTree) × (rest : Kinds) × (line_kinds line ≡ (number value ∷ (role_kinds role ++ prefix s)) ++ rest)
 completes_steps value roles.Set s c = (
   set_line value c.text [],

@@ -5,14 +5,14 @@ use Rattle.types_lex.specs.declared.lexeme.LexemeKind.{LexemeKind}
 use Rattle.types_lex.specs.declared.lexeme.LexemeKind.TheVariants as kinds
 use Rattle.types_lex.specs.declared.lexeme.Symbol.TheVariants as symbols
 use Rattle.types_parse.specs.grammar.Grammar.{Kinds}
-use Rattle.types_parse.specs.grammar.Machine.{Leads, stop, go}
-use Rattle.types_parse.proofs.grammar.TableLemmas.{Adds, Completes, Reads}
+use Rattle.types_parse.specs.grammar.TypeMachine.{Leads, stop, go}
+use Rattle.types_parse.proofs.grammar.TypeGrammarTableLemmas.{Adds, Completes, Reads}
 use Rattle.text_path.specs.PathGrammar.{dot, steps_kinds, path_kinds}
-use Rattle.types_parse.specs.grammar.Lexemes.{number_of, number}
+use Rattle.types_parse.specs.grammar.LexemeKinds.{number_of, number}
 use Rattle.types_parse.proofs.grammar.LexemeLemmas.{number_is}
-use Rattle.text_path.specs.Machine.{is_dot, State, at, start, step, prefix, accepted, ends}
+use Rattle.text_path.specs.PathMachine.{is_dot, PathState, at, start, step, prefix, accepted, ends}
 
-abbrev pub none : State → ℕ
+abbrev pub none : PathState → ℕ
 none s = 0
 
 abbrev pub zeros : Kinds → List ℕ
@@ -36,7 +36,7 @@ more_is_steps (m ∷ ms) n = refl
 
 -- ---- the table
 
-abbrev pub final : List ℕ → State
+abbrev pub final : List ℕ → PathState
 final [] = at [] true
 final (n ∷ ns) = at (n ∷ ns) false
 
@@ -55,7 +55,7 @@ accepts : (path : List ℕ) → accepted (final path) ≡ Some path
 accepts [] = refl
 accepts (n ∷ ns) = refl
 
-accepted_prefix : (s : State) (path : List ℕ) → accepted s ≡ Some path → path_kinds path ≡ prefix s
+accepted_prefix : (s : PathState) (path : List ℕ) → accepted s ≡ Some path → path_kinds path ≡ prefix s
 accepted_prefix (at [] true) path h = let e : [] ≡ path = cc in ap path_kinds (sym e)
 accepted_prefix (at (n ∷ ns) false) path h = let e : n ∷ ns ≡ path = cc in ap path_kinds (sym e)
 accepted_prefix (at [] false) path h = absurd (cc)
@@ -75,11 +75,11 @@ adds_dot path kind true h =
     subst (λ k. Adds prefix none (prefix (at path false)) 0 k (at path true)) (sym (dot_is kind h))
     (record { prefixes = refl; opens = refl })
 
-adds : (s : State) (kind : LexemeKind) → IfSome (step s kind) (λ next. Adds prefix none (prefix s) (none s) kind next)
+adds : (s : PathState) (kind : LexemeKind) → IfSome (step s kind) (λ next. Adds prefix none (prefix s) (none s) kind next)
 adds (at path true) kind = adds_number path kind (number_of kind) refl
 adds (at path false) kind = adds_dot path kind (is_dot kind) refl
 
-completes : (s : State) → Completes path_kinds ends prefix none s
+completes : (s : PathState) → Completes path_kinds ends prefix none s
 completes (at path true) = record {
   text = path ++ 0 ∷ [];
   rest = number 0 ∷ [];

@@ -3,7 +3,7 @@ use Rattle.std.proofs.Common.{ℕ, ◌≡◌, ◌≤◌, ◌∙◌, Bool, true, 
 use Rattle.std.specs.Prelude.{All, Any, MatchOption, option_to_list}
 use Rattle.std.specs.List.{cons_option}
 use Rattle.std.proofs.lemmas.List.Elements.{All-nil, All-cons, All-head, All-tail, All-contains, All-contains_itself}
-use Rattle.text_path.specs.Order.{positions_of}
+use Rattle.text_path.specs.LineOrder.{positions_of}
 use Rattle.text_path.specs.Uses.{CopiesFrom, IsUnused, IsLastUse, use_by, uses_in, AreUses}
 use Rattle.text_path.specs.declared.edits.Action.{Action}
 use Rattle.text_path.specs.declared.edits.Action.TheVariants as actions

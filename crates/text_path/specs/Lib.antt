@@ -1,9 +1,9 @@
-pub mod Answer
+pub mod ParserAnswer
 pub mod LineCode
 pub mod LineGrammar
 pub mod LineMachine
-pub mod Machine
-pub mod Order
+pub mod PathMachine
+pub mod LineOrder
 pub mod PathGrammar
 pub mod ScriptAnswer
 pub mod Uses

@@ -2,10 +2,10 @@
 use Rattle.std.specs.Prelude.{ℕ, ◌≡◌, ◌≤◌, nat_le, if◌then◌else◌, Option, Some, None, Result, Ok}
 use Rattle.std.specs.Prelude.{Err, List, [], length, take}
 use Rattle.types_lex.specs.declared.lexeme.Lexeme.{Lexeme}
-use Rattle.types_parse.specs.grammar.Machine.{run}
+use Rattle.types_parse.specs.grammar.TypeMachine.{run}
 use Rattle.types_parse.specs.grammar.Refusals.{IsSyntax}
-use Rattle.types_parse.specs.grammar.Lexemes.{kinds_of}
-use Rattle.text_path.specs.Machine.{at, accepted}
+use Rattle.types_parse.specs.grammar.LexemeKinds.{kinds_of}
+use Rattle.text_path.specs.PathMachine.{at, accepted}
 use Rattle.text_path.specs.LineGrammar.{line_kinds}
 use Rattle.text_path.specs.LineMachine.{reading, literal, line_start, line_step}
 use Rattle.text_path.specs.declared.edits.Action.{Action}

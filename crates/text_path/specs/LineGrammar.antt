@@ -5,7 +5,7 @@ use Rattle.types_lex.specs.declared.lexeme.LexemeKind.{LexemeKind}
 use Rattle.types_lex.specs.declared.lexeme.LexemeKind.TheVariants as kinds
 use Rattle.types_lex.specs.declared.lexeme.Symbol.TheVariants as symbols
 use Rattle.types_parse.specs.grammar.Grammar.{Kinds}
-use Rattle.types_parse.specs.grammar.Lexemes.{number}
+use Rattle.types_parse.specs.grammar.LexemeKinds.{number}
 use Rattle.text_path.specs.PathGrammar.{path_kinds}
 
 -- A line of a script: the number of the edited value and the edit. The literal of `set` is any list

@@ -6,8 +6,8 @@ use Rattle.types_lex.specs.declared.lexeme.LexemeKind.{LexemeKind}
 use Rattle.types_lex.specs.declared.lexeme.LexemeKind.TheVariants as kinds
 use Rattle.types_lex.specs.declared.lexeme.Symbol.TheVariants as symbols
 use Rattle.types_parse.specs.grammar.Grammar.{Kinds}
-use Rattle.types_parse.specs.grammar.Lexemes.{number_of, number}
-use Rattle.text_path.specs.Machine.{State, at, step, prefix, accepted}
+use Rattle.types_parse.specs.grammar.LexemeKinds.{number_of, number}
+use Rattle.text_path.specs.PathMachine.{PathState, at, step, prefix, accepted}
 use Rattle.text_path.specs.LineGrammar.{LineTree, set_line, link_line, unshare_line, graft_line}
 use Rattle.text_path.specs.LineGrammar.{assigned, line_kinds}
 use Rattle.text_path.specs.declared.line_prefix.Role.{Role}
@@ -65,12 +65,12 @@ with_other value path None = nexts.Nowhere
 with_other value path (Some other) =
     nexts.Onward (prefixes.Steps value (roles.Part path other) [] false)
 
-abbrev pub along : ℕ → Role → Option State → LexemeResult
+abbrev pub along : ℕ → Role → Option PathState → LexemeResult
 along value role None = nexts.Nowhere
 along value role (Some (at path after_dot)) =
     nexts.Onward (prefixes.Steps value role path after_dot)
 
-abbrev pub steps_next : ℕ → Role → State → LexemeKind → LexemeResult
+abbrev pub steps_next : ℕ → Role → PathState → LexemeKind → LexemeResult
 steps_next value role s kind =
     if is_equals kind then after_equals value role (accepted s) else along value role (step s kind)
 

@@ -5,7 +5,7 @@ use Rattle.types_lex.specs.declared.lexeme.LexemeKind.{LexemeKind}
 use Rattle.types_lex.specs.declared.lexeme.LexemeKind.TheVariants as kinds
 use Rattle.types_lex.specs.declared.lexeme.Symbol.TheVariants as symbols
 use Rattle.types_parse.specs.grammar.Grammar.{Kinds}
-use Rattle.types_parse.specs.grammar.Lexemes.{number}
+use Rattle.types_parse.specs.grammar.LexemeKinds.{number}
 
 abbrev pub dot : LexemeKind
 dot = kinds.Symbol symbols.Dot

@@ -8,7 +8,7 @@ use Rattle.types_lex.specs.declared.lexeme.LexFault.{LexFault}
 use Rattle.types_lex.specs.declared.lexeme.LexFault.TheVariants as lexer
 use Rattle.types_lex.specs.LexText.{Outcome}
 use Rattle.types_parse.specs.grammar.Refusals.{IsSyntax}
-use Rattle.types_parse.specs.grammar.Lexemes.{kinds_of}
+use Rattle.types_parse.specs.grammar.LexemeKinds.{kinds_of}
 use Rattle.types_parse.specs.parse.Parsed.{byte_of}
 use Rattle.text_path.specs.LineGrammar.{LineTree, set_line, link_line, unshare_line, graft_line}
 use Rattle.text_path.specs.LineGrammar.{line_kinds}
@@ -108,27 +108,27 @@ AreAnswers number (line ∷ lines) (answer ∷ answers) =
 AreAnswers number [] (answer ∷ answers) = ⊥
 AreAnswers number (line ∷ lines) [] = ⊥
 
-abbrev pub Edits : Type 0
-Edits = Result (List ScriptLine) ScriptFault
+abbrev pub ScriptEdits : Type 0
+ScriptEdits = Result (List ScriptLine) ScriptFault
 
-abbrev pub in_prefix : Option ScriptLine → Edits → Edits
+abbrev pub in_prefix : Option ScriptLine → ScriptEdits → ScriptEdits
 in_prefix None rest = rest
 in_prefix (Some line) (Ok lines) = Ok (line ∷ lines)
 in_prefix (Some line) (Err fault) = Err fault
 
 -- The edits of all lines, or the error of the first line with an error.
-abbrev pub edits_of : List LineAnswer → Edits
+abbrev pub edits_of : List LineAnswer → ScriptEdits
 edits_of [] = Ok []
 edits_of (Ok line ∷ answers) = in_prefix line (edits_of answers)
 edits_of (Err fault ∷ answers) = Err fault
 
 -- The edits, or the error, of a text whose first line has the number `number`.
-abbrev pub AreEdits : ℕ → List ℕ → Edits → Type 0
+abbrev pub AreEdits : ℕ → List ℕ → ScriptEdits → Type 0
 AreEdits number text all =
     (answers : List LineAnswer) × AreAnswers number (lines_of text) answers
     × (edits_of answers ≡ all)
 
-abbrev pub edits_in : Result Script ScriptFault → Edits
+abbrev pub edits_in : Result Script ScriptFault → ScriptEdits
 edits_in (Ok script) = Ok script.lines
 edits_in (Err fault) = Err fault
 

@@ -1,7 +1,7 @@
 -- The values from which the lines of a script copy, and the values into which the lines copy.
 use Rattle.std.specs.Prelude.{ℕ, ◌≡◌, ◌≤◌, Option, Some, None, List, All, Any}
 use Rattle.std.specs.List.{filter_map}
-use Rattle.text_path.specs.Order.{IsByValue, positions_of}
+use Rattle.text_path.specs.LineOrder.{IsByValue, positions_of}
 use Rattle.text_path.specs.declared.edits.Action.{Action}
 use Rattle.text_path.specs.declared.edits.Action.TheVariants as actions
 use Rattle.text_path.specs.declared.edits.ScriptLine.{ScriptLine}

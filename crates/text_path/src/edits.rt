@@ -1,13 +1,13 @@
 //! Edits of values, as the lines of a script list them, and the errors of a script's text.
 
 ghost use Rattle.std.specs.Prelude.{◌≡◌, ◌∷◌, [], IfOk, MatchOption};
-ghost use Rattle.text_path.specs.Order.{lines_of};
+ghost use Rattle.text_path.specs.LineOrder.{lines_of};
 ghost use Rattle.text_path.specs.Uses.{IsUnused, IsLastUse};
 ghost use Rattle.text_path.specs.ScriptAnswer.{line_fault};
 ghost use Rattle.text_path.specs.declared.edits.ScriptFault.TheVariants as faults;
 
-use crate::order::{order_of, positions_of};
-use crate::uses::{last_use, uses_of};
+use crate::graft_uses::{last_use, uses_of};
+use crate::line_order::{order_of, positions_of};
 use base_data::model::Memory;
 use base_data::model::list::List;
 use base_data::model::path::Path;
@@ -60,7 +60,7 @@ pub struct Script {
 }
 
 impl Model for Script {
-    ghost use Rattle.text_path.specs.Order.{ScriptLines, IsOrder};
+    ghost use Rattle.text_path.specs.LineOrder.{ScriptLines, IsOrder};
     ghost use Rattle.text_path.specs.Uses.{AreUses};
 
     ghost Value = { ScriptLines };
@@ -117,7 +117,7 @@ pub struct ValueLines<'a> {
 impl<'a> Model for ValueLines<'a> {
     ghost use Rattle.std.specs.Prelude.{List};
     ghost use Rattle.text_path.specs.declared.edits.ScriptLine.{ScriptLine};
-    ghost use Rattle.text_path.specs.Order.{AreWithin, lines_at};
+    ghost use Rattle.text_path.specs.LineOrder.{AreWithin, lines_at};
 
     ghost Value = { List ScriptLine };
 

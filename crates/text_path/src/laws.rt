@@ -1,7 +1,7 @@
 //! Laws of paths and scripts. Each function does nothing and exists only for its contract.
 
 ghost use Rattle.std.specs.Prelude.{List, ℕ, Ok};
-ghost use Rattle.text_path.specs.Answer.{HasOneAnswer};
+ghost use Rattle.text_path.specs.ParserAnswer.{HasOneAnswer};
 ghost use Rattle.text_path.specs.ScriptAnswer.{AreEdits, AreInTime, HasOneScriptAnswer};
 ghost use Rattle.text_path.specs.declared.edits.ScriptLine.{ScriptLine};
 

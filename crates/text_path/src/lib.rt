@@ -18,17 +18,17 @@
 #![tactic(auto)]
 
 mod edits;
-mod fault;
+mod graft_uses;
 mod laws;
-mod line;
+mod line_order;
 mod line_prefix;
-mod order;
-mod read;
-mod text;
-mod uses;
+mod path_fault;
+mod path_parser;
+mod script_line_parser;
+mod script_parser;
 
 pub use edits::{Action, Edit, Script, ScriptFault, ScriptLine, ValueLines};
-pub use fault::PathFault;
 pub use laws::{lines_in_time, one_answer, one_script_answer};
-pub use read::read_path;
-pub use text::read_script;
+pub use path_fault::PathFault;
+pub use path_parser::read_path;
+pub use script_parser::read_script;

@@ -7,7 +7,7 @@ use Rattle.text_pretty.specs.declared.break_point.BreakPoint.TheVariants as brea
 use Rattle.text_pretty.specs.declared.break_point.ByteRole.TheVariants as marks
 use Rattle.text_pretty.specs.declared.layout.Layout.{Layout}
 use Rattle.text_pretty.specs.BreakPoints.{mark_of}
-use Rattle.text_pretty.specs.Lines.{inner, base, line_at, line_before, line_text, behind, laid, start}
+use Rattle.text_pretty.specs.PrettyLines.{inner, base, line_at, line_before, line_text, behind, laid, start}
 use Rattle.text_pretty.specs.Stack.{first}
 use Rattle.text_pretty.specs.Laws.{joined_from, PrettyIsPlain}
 

@@ -2,5 +2,5 @@ pub mod FitLemmas
 pub mod JoinLemmas
 pub mod NarrowLemmas
 pub mod NarrowSteps
-pub mod PartLemmas
+pub mod PrettyPartLemmas
 pub mod ShortLemmas

@@ -11,7 +11,7 @@ use Rattle.text_pretty.specs.declared.break_point.BreakPoint.TheVariants as brea
 use Rattle.text_pretty.specs.declared.break_point.ByteRole.{ByteRole}
 use Rattle.text_pretty.specs.declared.break_point.ByteRole.TheVariants as marks
 use Rattle.text_pretty.specs.BreakPoints.{bare_mark, mark_of, next_break_point}
-use Rattle.text_pretty.specs.Lines.{line_text}
+use Rattle.text_pretty.specs.PrettyLines.{line_text}
 use Rattle.text_pretty.specs.Narrow.{is_behind_position, is_before_position, Seen, nothing, seen_more, IsNarrow, AreNarrow}
 
 -- ---- the roles of bytes

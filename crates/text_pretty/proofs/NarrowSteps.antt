@@ -17,7 +17,7 @@ use Rattle.text_pretty.specs.declared.layout.Layout.{Layout}
 use Rattle.text_pretty.specs.BreakPoints.{mark_of, next_break_point}
 use Rattle.text_pretty.specs.Fit.{closing_length, depth_after, counted, to_close, within}
 use Rattle.text_pretty.specs.Stack.{first, others}
-use Rattle.text_pretty.specs.Lines.{inner, base, child_indent, closing_line, line_at, line_before, line_text, left_behind, passed, opened, list_room, marked, behind, laid, start}
+use Rattle.text_pretty.specs.PrettyLines.{inner, base, child_indent, closing_line, line_at, line_before, line_text, left_behind, passed, opened, list_room, marked, behind, laid, start}
 use Rattle.text_pretty.specs.Narrow.{is_behind_position, is_before_position, Seen, nothing, seen_more, IsNarrow, AreNarrow, goes_on, bar_goes_on, has_no_blank, follows, is_regular, PrettyIsNarrow}
 use Rattle.text_pretty.proofs.FitLemmas.{IsPositive, closing_positive, close_positive}
 use Rattle.text_pretty.proofs.NarrowLemmas.{parts_lead, parts_open_nothing, opening_leads_out, goes_byte, goes_line}

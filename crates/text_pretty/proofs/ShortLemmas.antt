@@ -11,7 +11,7 @@ use Rattle.text_pretty.specs.declared.layout.Layout.{Layout}
 use Rattle.text_pretty.specs.Fit.{closing_length, to_close, within}
 use Rattle.text_pretty.specs.BreakPoints.{mark_of}
 use Rattle.text_pretty.specs.Stack.{first, others}
-use Rattle.text_pretty.specs.Lines.{inner, base, child_indent, closing_line, line_at, line_before, line_text, passed, opened, list_room, marked, behind, laid, start}
+use Rattle.text_pretty.specs.PrettyLines.{inner, base, child_indent, closing_line, line_at, line_before, line_text, passed, opened, list_room, marked, behind, laid, start}
 use Rattle.text_pretty.specs.Laws.{PrettyIsShort}
 
 -- ---- indentations

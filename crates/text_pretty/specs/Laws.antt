@@ -2,7 +2,7 @@
 use Rattle.std.specs.Prelude.{ℕ, ◌*◌, ◌≤◌, ◌≡◌, ◌≢◌, Bool, true, false, ◌&&◌, ◌==◌, if◌then◌else◌}
 use Rattle.std.specs.Prelude.{List, [], ◌∷◌, length}
 use Rattle.std.specs.List.{AllByRecursion}
-use Rattle.text_pretty.specs.Lines.{pretty}
+use Rattle.text_pretty.specs.PrettyLines.{pretty}
 
 -- The text without line feeds and without the blanks after each line feed. `begun` is true if only
 -- blanks follow the last line feed.

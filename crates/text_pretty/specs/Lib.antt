@@ -1,8 +1,8 @@
 pub mod BreakPoints
 pub mod Stack
 pub mod Fit
-pub mod Lines
+pub mod PrettyLines
 pub mod Laws
 pub mod WorkedLines
 pub mod Narrow
-pub mod Parts
+pub mod TextParts

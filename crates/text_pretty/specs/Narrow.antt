@@ -9,7 +9,7 @@ use Rattle.text_pretty.specs.declared.break_point.BreakPoint.TheVariants as brea
 use Rattle.text_pretty.specs.declared.break_point.ByteRole.{ByteRole}
 use Rattle.text_pretty.specs.declared.break_point.ByteRole.TheVariants as marks
 use Rattle.text_pretty.specs.BreakPoints.{mark_of, next_break_point}
-use Rattle.text_pretty.specs.Lines.{pretty}
+use Rattle.text_pretty.specs.PrettyLines.{pretty}
 
 -- ---- lines
 

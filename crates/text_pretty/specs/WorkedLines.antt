@@ -1,7 +1,7 @@
 -- Worked examples of pretty-printed texts, computed independently of the definitions.
 use Rattle.std.specs.Prelude.{ℕ, ◌≡◌, ◌++◌, true, List, codes}
 use Rattle.text_pretty.specs.declared.break_point.BreakPoint.TheVariants as break_points
-use Rattle.text_pretty.specs.Lines.{pretty}
+use Rattle.text_pretty.specs.PrettyLines.{pretty}
 use Rattle.text_pretty.specs.Narrow.{is_regular}
 
 -- The plain text has this pretty text, and the brackets of the plain text occur as in the texts of
@@ -9,7 +9,7 @@ use Rattle.text_pretty.specs.Narrow.{is_regular}
 abbrev pub IsLaid : List ℕ → List ℕ → Type 0
 IsLaid plain lines = (pretty plain ≡ lines) × (is_regular break_points.Outside plain ≡ true)
 
-pub record Worked : Type 0 where
+pub record WorkedLineRows : Type 0 where
   -- A list that fits a line.
   pub short_list : IsLaid
       (codes "::(1, ::(2, ::(3, ::(4, ::(5, [])))))")

@@ -3,8 +3,8 @@
 
 ghost use Rattle.text_pretty.specs.Laws.{PrettyIsPlain, PrettyIsShort};
 ghost use Rattle.text_pretty.specs.Narrow.{PrettyIsNarrow};
-ghost use Rattle.text_pretty.specs.Parts.{PartsAreRegular};
-ghost use Rattle.text_pretty.specs.WorkedLines.{Worked};
+ghost use Rattle.text_pretty.specs.TextParts.{PartsAreRegular};
+ghost use Rattle.text_pretty.specs.WorkedLines.{WorkedLineRows};
 
 /// Suppose the plain text has one line. If the line feeds of the pretty text are removed, with the
 /// blanks after each line feed, then the plain text remains. The pretty text has at most 42 times
@@ -27,5 +27,5 @@ pub fn parts_are_regular()
 
 /// The definitions give the expected texts for worked examples.
 pub fn pretty_of_worked_texts()
-    ensures { Worked }
+    ensures { WorkedLineRows }
 {}

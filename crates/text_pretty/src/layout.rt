@@ -1,9 +1,10 @@
 //! The positions in a text at which lines begin.
 
 ghost use Rattle.std.specs.Prelude.{◌≡◌, OnOk};
-ghost use Rattle.text_pretty.specs.Lines.{inner, base, child_indent, closing_line, line_at};
-ghost use Rattle.text_pretty.specs.Lines.{line_before, left_behind, passed, opened, list_room};
-ghost use Rattle.text_pretty.specs.Lines.{marked, behind, start};
+ghost use Rattle.text_pretty.specs.PrettyLines.{inner, base, child_indent, closing_line, line_at};
+ghost use Rattle.text_pretty.specs.PrettyLines.{line_before, left_behind, passed, opened};
+ghost use Rattle.text_pretty.specs.PrettyLines.{list_room};
+ghost use Rattle.text_pretty.specs.PrettyLines.{marked, behind, start};
 
 use crate::break_point::{BreakPoint, ByteRole, mark_of, next_break_point};
 use crate::broken_bracket::{Brackets, BrokenBracket};

@@ -1,7 +1,7 @@
 //! Pretty-printed texts.
 
 ghost use Rattle.std.specs.Prelude.{◌≡◌, ◌++◌, OnOk, replicate};
-ghost use Rattle.text_pretty.specs.Lines.{line_text, pretty};
+ghost use Rattle.text_pretty.specs.PrettyLines.{line_text, pretty};
 
 use crate::layout::Layout;
 use base_data::model::Memory;

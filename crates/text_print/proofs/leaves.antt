@@ -1,8 +1,8 @@
-pub mod DumpLemmas
+pub mod LeafDumpLemmas
 pub mod EscapeLemmas
-pub mod ObjectLemmas
-pub mod RowLemmas
-pub mod StringLemmas
-mod FrameLemmas
-mod NameLemmas
-mod NumberLemmas
+pub mod LeafObjectLemmas
+pub mod LeafRowLemmas
+pub mod LeafStringLemmas
+mod LeafFrameLemmas
+mod LeafNameLemmas
+mod LeafNumberLemmas

@@ -1,3 +1,3 @@
 pub mod KeptLemmas
-pub mod TextLemmas
-pub mod LineLemmas
+pub mod SameTypeTextLemmas
+pub mod SameTypeLineLemmas

@@ -1,6 +1,6 @@
-pub mod AgreeLemmas
-pub mod TableLemmas
+pub mod ShowAgreeLemmas
+pub mod ShowTableLemmas
 pub mod FuelLemmas
 pub mod NamedLemmas
-pub mod PartLemmas
-pub mod ChunkLemmas
+pub mod ShowPartLemmas
+pub mod ShowChunkLemmas

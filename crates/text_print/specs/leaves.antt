@@ -1,4 +1,4 @@
-pub mod Dumped
+pub mod DumpedObjects
 pub mod FrameView
 pub mod Frames
-pub mod Leaves
+pub mod LeafTexts

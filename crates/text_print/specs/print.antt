@@ -1,8 +1,8 @@
-pub mod Flat
+pub mod FlatText
 pub mod Labels
-pub mod Levels
-pub mod Plain
+pub mod PrintLevels
+pub mod TextUntilAgain
 pub mod Write
-pub mod Row
+pub mod PrintRow
 pub mod Typed
-pub mod Walking
+pub mod PrintWalk

@@ -1,7 +1,7 @@
-pub mod Chunks
-pub mod Shown
-pub mod Dumped
+pub mod TextChunks
+pub mod ShownValues
+pub mod DumpedGraph
 pub mod WorkedTexts
-pub mod Tables
+pub mod TableShapes
 pub mod Laws
-pub mod Named
+pub mod NamedFields

@@ -3,16 +3,18 @@
 //! parts are printed, and labels of shared objects, are not part of this crate.
 
 mod at_type;
-mod bytes;
 mod dump;
 mod escape;
 mod frame;
-mod leaves;
-mod strings;
+mod number_text;
+mod string_text;
+mod text_bytes;
 
 pub use at_type::{write_int_at, write_object_at};
-pub use bytes::write_few;
 pub use dump::{write_object_line, write_root_line};
 pub use escape::{write_char, write_escaped, write_string};
 pub use frame::{Frame, block_frame, doubles_frame_of};
-pub use leaves::{write_below, write_float, write_int, write_int32, write_int64, write_native};
+pub use number_text::{
+    write_below, write_float, write_int, write_int32, write_int64, write_native,
+};
+pub use text_bytes::write_few;

@@ -3,19 +3,19 @@
 //! value without building the value's whole text. The definitions of the texts are in other
 //! modules.
 
-mod block;
 mod dumped;
 mod ends;
-mod flat;
-mod known;
+mod flat_text;
 mod labels;
-mod plain;
+mod open_block;
 mod print_walk;
 mod shown;
-mod sink;
+mod shown_text;
+mod text_until_again;
+mod value_printer;
 mod visit_order;
 
 pub use dumped::write_dump;
-pub use known::is_shown;
 pub use shown::write_shown_at;
-pub use sink::{dump, show};
+pub use shown_text::is_shown;
+pub use value_printer::{dump, show};

@@ -1,5 +1,5 @@
-pub mod TakenLemmas
+pub mod LexedTakenLemmas
 pub mod LexedLemmas
 pub mod CharLemmas
-pub mod NumberLemmas
-pub mod LineLemmas
+pub mod LexedNumberLemmas
+pub mod LexedLineLemmas

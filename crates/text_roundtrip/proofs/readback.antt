@@ -1,5 +1,5 @@
-pub mod LabelLemmas
+pub mod ReadbackLabelLemmas
 pub mod LabelReadLemmas
 pub mod TreeReadLemmas
 pub mod WholeReadLemmas
-pub mod DeclaredLemmas
+pub mod ReadbackDeclaredLemmas

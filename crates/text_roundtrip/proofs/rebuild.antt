@@ -1,4 +1,4 @@
-pub mod OnceLemmas
+pub mod RebuildOnceLemmas
 pub mod SpokenLemmas
 pub mod SpokenTypeLemmas
 pub mod SpokenTextLemmas

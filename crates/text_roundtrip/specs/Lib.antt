@@ -1,5 +1,5 @@
 pub mod lexed
 pub mod literal_texts
 pub mod readback
-pub mod text
+pub mod text_lines
 pub mod rebuild

@@ -1,3 +1,3 @@
 pub mod Lexed
-pub mod Numbers
+pub mod LexedNumbers
 pub mod Laws

@@ -1,7 +1,7 @@
-pub mod Numbered
+pub mod NumberedLabels
 pub mod Listing
 pub mod Readable
 pub mod Forests
-pub mod Plain
+pub mod PlainLiterals
 pub mod Blocks
 pub mod Laws

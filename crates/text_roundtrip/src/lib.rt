@@ -3,7 +3,8 @@
 //! - `lexed`: The texts of strings, characters, doubles and integers are single lexemes.
 //! - `literal_texts`: The text of a value at a type is a literal that begins like the value.
 //! - `readback`: Reading the text of a value returns the value.
-//! - `text`: What a line is at a type: blank, a value, or its fault (`read_text`, `TextFault`).
+//! - `text_lines`: What a line is at a type: blank, a value, or its fault (`read_text`,
+//!   `TextFault`).
 //! - `rebuild`: Texts of values are read back for every type that a text declares, without
 //!   assumptions on names.
 //!
@@ -23,4 +24,4 @@ pub mod lexed;
 pub mod literal_texts;
 pub mod readback;
 pub mod rebuild;
-pub mod text;
+pub mod text_lines;

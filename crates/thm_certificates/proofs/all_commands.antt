@@ -1,1 +1,1 @@
-pub mod AllLemmas
+pub mod AllCommandsLemmas

@@ -1,8 +1,8 @@
-pub mod GraphLemmas
-pub mod PositionLemmas
-pub mod StatedLemmas
-pub mod WriteLemmas
-pub mod TakenLemmas
-pub mod LineLemmas
-pub mod AcceptedLemmas
-pub mod ShownLemmas
+pub mod CertifiedGraphLemmas
+pub mod CertifiedPositionLemmas
+pub mod CertifiedStatedLemmas
+pub mod CertifiedWriteLemmas
+pub mod CertifiedTakenLemmas
+pub mod CertifiedLineLemmas
+pub mod CertifiedAcceptedLemmas
+pub mod CertifiedShownLemmas

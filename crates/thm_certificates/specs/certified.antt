@@ -1,2 +1,2 @@
-pub mod Certified
-pub mod Shown
+pub mod CertifyThenVerify
+pub mod ShownLines

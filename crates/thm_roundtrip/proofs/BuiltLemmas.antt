@@ -15,7 +15,7 @@ use Rattle.base_io.specs.Files.{File, contents_of}
 use Rattle.base_io.specs.Sink.{Writes}
 use Rattle.run_spec.specs.runs.Account.{IsWanted}
 use Rattle.run_spec.specs.runs.Call.{Call}
-use Rattle.run_spec.specs.runs.Causes.{AreAsKnown}
+use Rattle.run_spec.specs.runs.RunCauses.{AreAsKnown}
 use Rattle.run_spec.specs.runs.CommandLaws.{HaveOneOutcome, Follow}
 use Rattle.run_spec.specs.runs.Commands.{Item, text, Given, Split, AllPrint, Answers, Outcome}
 use Rattle.run_spec.specs.runs.Given.{ReportsBytes, TakesFrom, IsFoundOf}
@@ -26,15 +26,15 @@ use Rattle.run_spec.specs.value_commands.Tasks.{commands}
 use Rattle.types_wellformed.specs.declarations.Read.{IsDeclared, IsTypeOf}
 use Rattle.text_roundtrip.specs.rebuild.Laws.{DeclaredTextsAreReadBack}
 use Rattle.run_types.specs.Language.{TypeOver, IsAccepted, declared_types}
-use Rattle.run_types.proofs.GivenLemmas.{asked_at, accepted_at}
-use Rattle.cmd_build.specs.spec.Texts.{blank, made, write_bytes, building}
-use Rattle.cmd_build.proofs.spec.OutputLemmas.{texts}
-use Rattle.cmd_build.proofs.spec.TableLemmas.{goes_on}
-use Rattle.cmd_build.specs.command.Lines.{declared_texts}
-use Rattle.session.proofs.CopyLemmas.{output_all, texts_are, all_are_ok}
-use Rattle.thm_roundtrip.specs.Shown.{Shows, Builds, WritesCanonical, ShownTextsAreBuilt, HidesNothing}
-use Rattle.thm_roundtrip.proofs.LineLemmas.{IsSoundOver, HasIt, none_plain, shown_of, IsBuilt, is_built}
-use Rattle.thm_roundtrip.proofs.ShownLemmas.{lines_of, AreShown, are_shown}
+use Rattle.run_types.proofs.RunTypesGivenLemmas.{asked_at, accepted_at}
+use Rattle.cmd_build.specs.spec.InputTexts.{blank, made, write_bytes, building}
+use Rattle.cmd_build.proofs.spec.BuildSpecOutputLemmas.{texts}
+use Rattle.cmd_build.proofs.spec.BuildSpecTableLemmas.{goes_on}
+use Rattle.cmd_build.specs.command.InputLines.{declared_texts}
+use Rattle.session.proofs.SessionCopyLemmas.{output_all, texts_are, all_are_ok}
+use Rattle.thm_roundtrip.specs.Shown.{Shows, BuildsValues, WritesCanonical, ShownTextsAreBuilt, HidesNothing}
+use Rattle.thm_roundtrip.proofs.RoundtripLineLemmas.{IsSoundOver, HasIt, none_plain, shown_of, IsBuilt, is_built}
+use Rattle.thm_roundtrip.proofs.RoundtripShownLemmas.{lines_of, AreShown, are_shown}
 
 module _ (t : TypeOver) (write : Bool) where
   abbrev lines : List Tree → List Item
@@ -210,7 +210,7 @@ module _ (known : Follow (commands declared_types) (AreAsKnown (commands declare
 
     writes_canonical : (later_arguments : List (List ℕ)) (later : Call) → ReportsBytes later.input
         → RunSpec (building declared_types declared_texts) later_arguments later
-        → (builds : Builds later_arguments later file type contents shown)
+        → (builds : BuildsValues later_arguments later file type contents shown)
         → (shows.decimal ≡ true → builds.decimal ≡ true) → WritesCanonical limit input later
     writes_canonical later_arguments later later_reports later_run_spec builds reads =
         let o = later_run_spec.headline shown builds.files builds.honest builds.suffices in

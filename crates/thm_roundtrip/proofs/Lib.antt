@@ -1,5 +1,5 @@
 pub mod OkLemmas
-pub mod ShownLemmas
-pub mod LineLemmas
+pub mod RoundtripShownLemmas
+pub mod RoundtripLineLemmas
 pub mod BuiltLemmas
-pub mod AllLemmas
+pub mod RoundtripLemmas

@@ -4,7 +4,7 @@ use Rattle.cli_spec.specs.declared.status.Status.TheVariants as statuses
 use Rattle.cli_spec.specs.Outcome.{status_of, ending_of, exits, Replies, stopped}
 use Rattle.cli_spec.specs.declared.exit.Exit.{Exit}
 use Rattle.cli_spec.specs.declared.exit.Exit.TheVariants.{Usage as usage, BadPath as bad_path, NotTwoValues as not_two_values, CannotOpen as cannot_open, Declarations as declarations, RequestedType as requested_type, Value as value, Script as script_line, Text as text_line, Untyped as untyped_value, LargeValue as large_value, Certificate as certificate_line, Uncertified as uncertified_value, SectionsLeft as sections_left, Short as short_input, Finished as finished, ReadFault as read_fault, TooLong as too_long, Memory as out_of_memory}
-use Rattle.run_spec.proofs.runs.SettledLemmas.{exit_status}
+use Rattle.run_spec.proofs.runs.RunSettledLemmas.{exit_status}
 
 -- The exit reason is a refusal or a failure: any exit reason other than `Finished`.
 abbrev pub Refuses : Exit → Type 0

@@ -38,7 +38,8 @@ pub record Shows (arguments : List (List ℕ)) (call : Call) (file type : List �
 -- The arguments ask to build at FILE and TYPE, with decimals or without. FILE has the given
 -- contents, and the whole input is the text `shown`. No I/O call failed, nothing is too long, and
 -- memory did not run out.
-pub record Builds (arguments : List (List ℕ)) (call : Call) (file type contents shown : List ℕ)
+pub record BuildsValues (arguments : List (List ℕ)) (call : Call)
+    (file type contents shown : List ℕ)
     : Type 0 where
   pub lines : Bool
   pub decimal : Bool
@@ -71,7 +72,7 @@ BuildsWhatWasShown arguments call later_arguments later =
     (file type : List ℕ) (limit : ℕ) (contents input shown : List ℕ)
     → (shows : Shows arguments call file type limit contents input shown)
     → HidesNothing contents type
-    → (builds : Builds later_arguments later file type contents shown)
+    → (builds : BuildsValues later_arguments later file type contents shown)
     → (shows.decimal ≡ true → builds.decimal ≡ true) → WritesCanonical limit input later
 
 -- `BuildsWhatWasShown` holds for each two calls of which the first satisfies the specification `c`

@@ -1,11 +1,11 @@
 //! The laws. A lemma function does nothing at run time: its contract is a law.
 
-ghost use Rattle.cmd_build.specs.command.Lines.{declared_texts};
+ghost use Rattle.cmd_build.specs.command.InputLines.{declared_texts};
 ghost use Rattle.run_spec.specs.value_commands.Tasks.{commands};
 ghost use Rattle.run_types.specs.Language.{declared_types};
 ghost use Rattle.session.specs.All.{all_commands};
 ghost use Rattle.thm_roundtrip.specs.Shown.{ShownTextsAreBuilt};
-ghost use Rattle.cmd_build.specs.spec.Texts.{building};
+ghost use Rattle.cmd_build.specs.spec.InputTexts.{building};
 
 use cmd_build::command::laws::{DeclaredTexts, declared_texts_are_read_once};
 use cmd_build::spec::laws::building_answers_once;
@@ -13,7 +13,7 @@ use run_spec::value_commands::laws::commands_keep_run_spec;
 use run_types::laws::{DeclaredTypes, declared_types_are_lawful};
 use session::all_commands_have_parts;
 use text_roundtrip::rebuild::declared_texts_are_read_back;
-use types_wellformed::declarations::known::{files_are_well_formed, types_are_sound};
+use types_wellformed::declarations::well_formed_laws::{files_are_well_formed, types_are_sound};
 
 /// Suppose a call of `show` and a call of `build` satisfy the specifications of their commands.
 /// Then `build` writes the values that `show` printed.

@@ -1,2 +1,2 @@
 pub mod search_trees
-pub mod verdict
+pub mod value_verdict

@@ -1,12 +1,12 @@
 pub mod TreeType
 pub mod NodeType
-pub mod Parts
+pub mod NodeParts
 pub mod Valid
 pub mod TreeFault
 pub mod SearchTree
-pub mod Verdict
+pub mod TreeVerdict
 pub mod Laws
-pub mod Judgement
+pub mod NodeJudgement
 pub mod Span
-pub mod Levels
+pub mod TreeLevels
 pub mod Sweep

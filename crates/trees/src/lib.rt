@@ -2,8 +2,8 @@
 //!
 //! - `search_trees`: Which types of a table are sets or maps (`tree_types`), and what is wrong with
 //!   a list of nodes (`judge`).
-//! - `verdict`: The verdict on all sets and maps in a value that has its type (`trees`), and its
-//!   text (`write_verdict`).
+//! - `value_verdict`: The verdict on all sets and maps in a value that has its type (`trees`), and
+//!   its text (`write_verdict`).
 //!
 //! The faults of a node are a wrong height, subtrees that differ too much in height, and elements
 //! out of order (`TreeKind`). Over all nodes, faults of an earlier kind come first.
@@ -21,4 +21,4 @@
 #![tactic(auto)]
 
 pub mod search_trees;
-pub mod verdict;
+pub mod value_verdict;

@@ -3,18 +3,18 @@
 //! only if all sets and maps in the value are search trees. The law `tree_verdicts_are_one` says
 //! that each value has exactly one verdict.
 
+mod element_order;
 mod element_span;
+mod fault_sweep;
 mod judging;
 mod laws;
 mod levels;
-mod order;
-mod sweep;
+mod set_and_map_types;
 mod tree_node;
-mod types;
-mod verdict;
+mod tree_verdict;
 
 pub use judging::{NodesVerdict, judge};
 pub use laws::{sound_trees_are_search_trees, tree_verdicts_are_one};
+pub use set_and_map_types::{NodeRepresentation, tree_types};
 pub use tree_node::{TreeKind, TreeNode};
-pub use types::{NodeRepresentation, tree_types};
-pub use verdict::TreeVerdict;
+pub use tree_verdict::TreeVerdict;

@@ -1,6 +1,6 @@
-pub mod PlacedLemmas
+pub mod BuilderPlacedLemmas
 pub mod RepeatLemmas
-pub mod MetLemmas
-pub mod PartLemmas
+pub mod BuilderMetLemmas
+pub mod BuilderPartLemmas
 pub mod ListingLemmas
-pub mod WholeLemmas
+pub mod BuilderWholeLemmas

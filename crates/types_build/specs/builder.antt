@@ -1,3 +1,3 @@
-pub mod Faults
-pub mod Placed
+pub mod TypeFaults
+pub mod PlacedTypes
 pub mod Listed

@@ -1,10 +1,10 @@
 pub mod Unfolded
-pub mod Way
-pub mod Plain
+pub mod AbbreviationWay
+pub mod PlainHeads
 pub mod Tags
-pub mod Found
+pub mod FoundHeads
 pub mod Heads
 pub mod Work
-pub mod Steps
+pub mod RepresentationSteps
 pub mod Kind
 pub mod Representation

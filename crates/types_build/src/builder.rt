@@ -3,12 +3,12 @@
 //! or that the type reaches more than 65,536 types.
 
 mod discovered_types;
-mod fault;
-mod head;
 mod listing;
-mod shape;
-mod table;
+mod placed_heads;
+mod placed_shapes;
+mod reached_types;
 mod type_entry;
+mod type_fault;
 
-pub use fault::TypeFault;
-pub use table::build;
+pub use reached_types::build;
+pub use type_fault::TypeFault;

@@ -2,35 +2,35 @@
 //! constructors, fields and tags. A store contains the types, and an index refers to each type. The
 //! results equal the definitions `head`, `shape` and `names_of` over the declarations.
 
-mod borrowed;
 mod bracket;
 mod calls;
 mod datatype;
 mod found_heads;
-mod head;
-mod heads;
-mod kind;
+mod head_kind;
 mod known_abbreviations;
-mod names;
-mod plain;
-mod predeclared;
+mod plain_heads;
+mod predeclared_shapes;
+mod remembered_heads;
 mod replaced;
 mod representation;
+mod representation_names;
 mod settled_abbreviations;
 mod spine;
+mod stored;
 mod sum;
 mod trees;
+mod type_heads;
 
-pub use borrowed::Stored;
 pub use bracket::bracket_head;
 pub use calls::{expand, flat_float, shape};
 pub use found_heads::FoundHeads;
-pub use head::head_of;
-pub use heads::{Heads, item_head, no_heads};
-pub use kind::{is_float, is_polymorphic_variant};
+pub use head_kind::{is_float, is_polymorphic_variant};
 pub use known_abbreviations::{KnownAbbreviations, none_known};
-pub use names::names_at;
-pub use plain::plain as plain_head;
+pub use plain_heads::plain as plain_head;
+pub use remembered_heads::{Heads, item_head, no_heads};
 pub use replaced::{expanded, nearer, unfolded};
 pub use representation::{Representation, representation_of, representation_with};
+pub use representation_names::names_at;
 pub use spine::{name, parts, root};
+pub use stored::Stored;
+pub use type_heads::head_of;

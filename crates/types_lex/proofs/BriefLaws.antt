@@ -16,7 +16,7 @@ use Rattle.types_lex.specs.declared.lexeme.Lexeme.{Lexeme}
 use Rattle.types_lex.specs.Lexemes.{lexeme_in, lexeme_from, Reached}
 use Rattle.types_lex.specs.LexText.{Answers}
 use Rattle.types_lex.specs.Brief.{lone_symbol, IsBrief, FindsBrief, StepsBrief}
-use Rattle.types_lex.specs.Scan.{begins_with, cased_form, reserved_or, keyword_of, word_form, in_range, found, found_at, form_at, symbol_form, pair_at, pair_symbol, single_symbol, string_at, lexeme_at, step_at, word_of}
+use Rattle.types_lex.specs.Lexer.{begins_with, cased_form, reserved_or, keyword_of, word_form, in_range, found, found_at, form_at, symbol_form, pair_at, pair_symbol, single_symbol, string_at, lexeme_at, step_at, word_of}
 use Rattle.types_lex.proofs.CharLaws.{chosen, some_is, no_value, ReadsChars, reads_plain}
 
 -- ---- brief strings

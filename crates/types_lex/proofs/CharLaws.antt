@@ -10,7 +10,7 @@ use Rattle.types_lex.specs.declared.lexeme.LexemeKind.TheVariants as kinds
 use Rattle.types_lex.specs.declared.lexeme.LexFault.TheVariants as faults
 use Rattle.types_lex.specs.declared.found_lexeme.FoundLexeme.{FoundLexeme}
 use Rattle.types_lex.specs.Lexeme.{is_plain, Quoted, form_bytes, number_in, CharForm, Plain, Named, Decimal, Hexadecimal, char_bytes, char_value, named_char, IsCharForm}
-use Rattle.types_lex.specs.Scan.{hexadecimal_at, decimal_at, escape_at, char_at, char_found, chars_of, ended_string, string_at, TakesPlain}
+use Rattle.types_lex.specs.Lexer.{hexadecimal_at, decimal_at, escape_at, char_at, char_found, chars_of, ended_string, string_at, TakesPlain}
 
 -- If the result of a test is known, then one branch of the conditional is the value.
 pub chosen : {A : Type 0} (b : Bool) (x y z : A) → cond b x y ≡ z → ((b ≡ true) × (x ≡ z)) ⊎ ((b ≡ false) × (y ≡ z))

@@ -3,7 +3,7 @@ use Rattle.std.proofs.Common.{◌≡◌, ℕ, suc, pred, ◌+◌, ◌-◌, ◌<�
 use Rattle.std.proofs.lemmas.List.{drop_more, length-drop}
 use Rattle.types_lex.specs.declared.comments.CommentDelimiter.{CommentDelimiter}
 use Rattle.types_lex.specs.declared.comments.CommentDelimiter.TheVariants.{Opening, Closing, Neither}
-use Rattle.types_lex.specs.Scan.{plus, bracket_of, closing, closing_by}
+use Rattle.types_lex.specs.Lexer.{plus, bracket_of, closing, closing_by}
 
 pub plus-plus : (m n : ℕ) (o : Option ℕ) → plus m (plus n o) ≡ plus (m + n) o
 plus-plus m n None = refl

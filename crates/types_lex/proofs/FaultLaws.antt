@@ -6,11 +6,11 @@ use Rattle.std.proofs.lemmas.Bool.{eqb-true, eqb-false, cases_Bool}
 use Rattle.types_lex.specs.declared.lexeme.Symbol.TheVariants as symbols
 use Rattle.types_lex.specs.declared.lexeme.LexFault.{LexFault}
 use Rattle.types_lex.specs.declared.lexeme.LexFault.TheVariants as faults
-use Rattle.types_lex.specs.Lexeme.{is_separator, CharForm, Plain, char_bytes, IsCharForm, Form, Quoted, Mark}
-use Rattle.types_lex.specs.LexText.{Cut, cut_bytes, IsInside, Part, Separator, Comment, Word, part_bytes, IsPart, OpensString, StartsNoChar, StartsNothing, IsBadEscape, IsOpenString, IsOpenComment, IsOverlong, Breaks}
+use Rattle.types_lex.specs.Lexeme.{is_separator, CharForm, Plain, char_bytes, IsCharForm, LexemeForm, Quoted, Mark}
+use Rattle.types_lex.specs.LexText.{Cut, cut_bytes, IsInside, TextPart, Separator, Comment, Word, part_bytes, IsPart, OpensString, StartsNoChar, StartsNothing, IsBadEscape, IsOpenString, IsOpenComment, IsOverlong, Breaks}
 use Rattle.types_lex.specs.declared.found_lexeme.LexStep.{LexStep}
 use Rattle.types_lex.specs.declared.found_lexeme.LexStep.TheVariants as steps
-use Rattle.types_lex.specs.Scan.{begins_with, char_at, chars_of, string_form, form_at, in_range, found_at, ended_string, string_at, lexeme_at, closing, gap_of, word_of, step_at, moved, position_of}
+use Rattle.types_lex.specs.Lexer.{begins_with, char_at, chars_of, string_form, form_at, in_range, found_at, ended_string, string_at, lexeme_at, closing, gap_of, word_of, step_at, moved, position_of}
 use Rattle.types_lex.proofs.CharLaws.{no_value, char_at-is, char_at-form, chars_of-forms}
 use Rattle.types_lex.proofs.FormLaws.{chars_of-are, chars_of-stop}
 use Rattle.types_lex.proofs.TakenLaws.{taken-found, none-found, found-none}
@@ -80,7 +80,7 @@ step-breaks position text faults.Memory breaks = absurd breaks
 -- ---- what the lexer finds is a part or a fault of the grammar
 
 pub record IsPartAt (text : List ℕ) (step : LexStep) : Type 0 where
-  pub part : Part
+  pub part : TextPart
   pub after : List ℕ
   pub is : text ≡ part_bytes part ++ after
   pub fits : IsPart part after
@@ -117,7 +117,7 @@ step_at-comment more = by_end (closing 0 more) refl
 
 -- If a form begins the text, then the step is the form's lexeme or the fault of an integer out of
 -- range.
-step_at-form : (text : List ℕ) (form : Form) → form_at text ≡ Some form → ((more : List ℕ) → text ≢ 40 ∷ 42 ∷ more) → IsStepAt text (word_of (found_at (Some form)))
+step_at-form : (text : List ℕ) (form : LexemeForm) → form_at text ≡ Some form → ((more : List ℕ) → text ≢ 40 ∷ 42 ∷ more) → IsStepAt text (word_of (found_at (Some form)))
 step_at-form text form e free =
     let taken = taken-found text form e free in
     elim (cases_Bool (in_range form)) [
@@ -182,7 +182,7 @@ step_at-lexeme b bs sep bracket =
       | inr other ↦ by_form (eqb-false b 34 other) (form_at (b ∷ bs)) refl
     ]
   where
-    by_form : b ≢ 34 → (o : Option Form) → form_at (b ∷ bs) ≡ o → IsStepAt (b ∷ bs) (word_of (lexeme_at (b ∷ bs)))
+    by_form : b ≢ 34 → (o : Option LexemeForm) → form_at (b ∷ bs) ≡ o → IsStepAt (b ∷ bs) (word_of (lexeme_at (b ∷ bs)))
     by_form other None e = rw (lexeme-none b bs other e) (step_at-nothing b bs sep other e)
     by_form other (Some form) e = rw (lexeme-some (b ∷ bs) form e) (step_at-form (b ∷ bs) form e (λ more is. no_comment b bs more bracket is))
 

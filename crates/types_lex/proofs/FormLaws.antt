@@ -7,8 +7,8 @@ use Rattle.std.proofs.lemmas.List.{take-append-drop, length-take-le, length-drop
 use Rattle.std.proofs.lemmas.List.Folds.{length-prefix_len}
 use Rattle.std.proofs.lemmas.Option.{cond_some}
 use Rattle.types_lex.specs.declared.lexeme.Symbol.{Symbol}
-use Rattle.types_lex.specs.Lexeme.{starts_name, is_name_byte, CharForm, char_bytes, IsCharForm, minus_text, suffix_text, Form, Character, Number, Quoted, Double}
-use Rattle.types_lex.specs.Scan.{or_form, closed_char, character_form, quote_form, variable_form, tag_form, word_form, begins_with, char_at, one_more, chars_of, string_form, suffix_at, number_form, double_form, pair_at, single_symbol, or_symbol, symbol_form, form_at}
+use Rattle.types_lex.specs.Lexeme.{starts_name, is_name_byte, CharForm, char_bytes, IsCharForm, minus_text, suffix_text, LexemeForm, Character, Number, Quoted, Double}
+use Rattle.types_lex.specs.Lexer.{or_form, closed_char, character_form, quote_form, variable_form, tag_form, word_form, begins_with, char_at, one_more, chars_of, string_form, suffix_at, number_form, double_form, pair_at, single_symbol, or_symbol, symbol_form, form_at}
 use Rattle.types_lex.proofs.NumberLaws.{prefix_passes}
 use Rattle.types_lex.proofs.SymbolLaws.{single_symbol-is, pair_at-is}
 use Rattle.types_lex.proofs.CharLaws.{chosen, no_value, some_is, char_at-is, char_bytes-positive}
@@ -20,7 +20,7 @@ begins_with-is byte (b ∷ bs) e = (bs, ap (λ (c : ℕ). c ∷ bs) (eqb-true b 
 
 -- ---- characters
 
-character_form-begins : (bs : List ℕ) (form : Form) → character_form bs ≡ Some form → Begins (39 ∷ bs) form
+character_form-begins : (bs : List ℕ) (form : LexemeForm) → character_form bs ≡ Some form → Begins (39 ∷ bs) form
 unfolding character_form
 character_form-begins bs form e = by_char (char_at 39 bs) refl e
   where
@@ -32,11 +32,11 @@ character_form-begins bs form e = by_char (char_at 39 bs) refl e
         let close = begins_with-is 39 (drop (length (char_bytes c)) bs) p.0 in
         subst (Begins (39 ∷ bs)) p.1 (is.0, (close.0, ap (λ t. 39 ∷ t) (is.1 ∙ ap (λ t. char_bytes c ++ t) close.1 ∙ sym (append_assoc (char_bytes c) (39 ∷ []) close.0))))
 
-quote_form-begins : (bs : List ℕ) (form : Form) → quote_form bs ≡ Some form → Begins (39 ∷ bs) form
+quote_form-begins : (bs : List ℕ) (form : LexemeForm) → quote_form bs ≡ Some form → Begins (39 ∷ bs) form
 unfolding quote_form
 quote_form-begins bs form e = by_character (character_form bs) refl e
   where
-    by_character : (o : Option Form) → character_form bs ≡ o → or_form o (variable_form bs) ≡ Some form → Begins (39 ∷ bs) form
+    by_character : (o : Option LexemeForm) → character_form bs ≡ o → or_form o (variable_form bs) ≡ Some form → Begins (39 ∷ bs) form
     by_character None at e = variable_form-begins bs form e
     by_character (Some f) at e = character_form-begins bs form (at ∙ e)
 
@@ -69,7 +69,7 @@ chars_of-stop (suc n) text le = by_char (chars_of-stop n) (char_at 34 text) refl
     by_char others None at = at
     by_char others (Some c) at = others (drop (length (char_bytes c)) text) (omega (arith, length-drop (length (char_bytes c)) text, char_bytes-positive c))
 
-string_form-begins : (bs : List ℕ) (form : Form) → string_form bs ≡ Some form → Begins (34 ∷ bs) form
+string_form-begins : (bs : List ℕ) (form : LexemeForm) → string_form bs ≡ Some form → Begins (34 ∷ bs) form
 unfolding string_form
 string_form-begins bs form e =
     let read = chars_of (length bs) bs in
@@ -95,7 +95,7 @@ suffix_at-is (b ∷ bs) =
       ]
     ]
 
-number_form-begins : (minus : Bool) (bs : List ℕ) (form : Form) → number_form minus bs ≡ Some form → Begins (minus_text minus ++ bs) form
+number_form-begins : (minus : Bool) (bs : List ℕ) (form : LexemeForm) → number_form minus bs ≡ Some form → Begins (minus_text minus ++ bs) form
 unfolding number_form
 number_form-begins minus bs form e =
     let count = prefix_len is_ascii_digit bs in
@@ -109,7 +109,7 @@ number_form-begins minus bs form e =
           subst (Begins (minus_text minus ++ bs)) (some_is h.1) ((some, prefix_passes is_ascii_digit bs), (suffix.0, ap (λ t. minus_text minus ++ t) parts ∙ sym (append_assoc (minus_text minus) _ suffix.0)))
     ]
 
-double_form-begins : (bs : List ℕ) (form : Form) → double_form bs ≡ Some form → Begins (36 ∷ bs) form
+double_form-begins : (bs : List ℕ) (form : LexemeForm) → double_form bs ≡ Some form → Begins (36 ∷ bs) form
 unfolding double_form
 double_form-begins bs form e =
     elim (chosen (ltb (length bs) 16) None (cond (list_all is_ascii_hexdigit (take 16 bs)) (Some (Double (take 16 bs))) None) (Some form) e) [
@@ -119,7 +119,7 @@ double_form-begins bs form e =
           subst (Begins (36 ∷ bs)) p.1 ((length-take-le 16 bs (ltb-false (length bs) 16 h.0), p.0), (drop 16 bs, ap (λ t. 36 ∷ t) (sym (take-append-drop 16 bs))))
     ]
 
-symbol_form-begins : (a : ℕ) (bs : List ℕ) (form : Form) → symbol_form a bs ≡ Some form → Begins (a ∷ bs) form
+symbol_form-begins : (a : ℕ) (bs : List ℕ) (form : LexemeForm) → symbol_form a bs ≡ Some form → Begins (a ∷ bs) form
 unfolding symbol_form
 symbol_form-begins a bs form e = by_pair (pair_at a bs) refl e
   where
@@ -133,7 +133,7 @@ symbol_form-begins a bs form e = by_pair (pair_at a bs) refl e
 
 -- ---- all forms
 
-pub form_at-begins : (text : List ℕ) (form : Form) → form_at text ≡ Some form → Begins text form
+pub form_at-begins : (text : List ℕ) (form : LexemeForm) → form_at text ≡ Some form → Begins text form
 unfolding form_at
 form_at-begins [] form e = absurd (no_value e)
 form_at-begins (b ∷ bs) form e =

@@ -4,7 +4,7 @@ use Rattle.std.specs.List.{flat_map}
 use Rattle.std.proofs.lemmas.Bool.{eqb-true, and_parts, or_parts, or_from, cases_Bool}
 use Rattle.types_lex.specs.LexText.{Cut, Opens, Closes, Other, cut_bytes, is_bracket, begins_bracket, IsCut, Nests}
 use Rattle.types_lex.specs.declared.comments.CommentDelimiter.TheVariants.{Opening, Closing, Neither}
-use Rattle.types_lex.specs.Scan.{plus, bracket_of, closing, closing_by}
+use Rattle.types_lex.specs.Lexer.{plus, bracket_of, closing, closing_by}
 use Rattle.types_lex.proofs.CharLaws.{no_value, some_is}
 
 -- ---- brackets

@@ -7,10 +7,10 @@ use Rattle.types_lex.specs.declared.lexeme.LexFault.{LexFault}
 use Rattle.types_lex.specs.declared.found_lexeme.FoundLexeme.{FoundLexeme}
 use Rattle.types_lex.specs.declared.found_lexeme.LexStep.{LexStep}
 use Rattle.types_lex.specs.declared.found_lexeme.LexStep.TheVariants as steps
-use Rattle.types_lex.specs.Lexeme.{starts_lower, starts_name, is_name_byte, Form, Reserved, Lower, Upper, Tag, Variable, Character, Number, Quoted, Double, Mark, form_bytes, form_kind, IsForm}
-use Rattle.types_lex.specs.LexText.{Part, Separator, Comment, Word, part_bytes, IsPart}
+use Rattle.types_lex.specs.Lexeme.{starts_lower, starts_name, is_name_byte, LexemeForm, Reserved, Lower, Upper, Tag, Variable, Character, Number, Quoted, Double, Mark, form_bytes, form_kind, IsForm}
+use Rattle.types_lex.specs.LexText.{TextPart, Separator, Comment, Word, part_bytes, IsPart}
 use Rattle.types_lex.specs.Lexemes.{lexeme_in, lower_name}
-use Rattle.types_lex.specs.Scan.{keyword_of, cased_form, reserved_or, word_form, in_range, found, found_at, word_of, step_at}
+use Rattle.types_lex.specs.Lexer.{keyword_of, cased_form, reserved_or, word_form, in_range, found, found_at, word_of, step_at}
 use Rattle.types_lex.proofs.NameLaws.{name_byte-from_start}
 use Rattle.types_lex.proofs.WordLaws.{reserved_word}
 use Rattle.types_lex.proofs.PrefixLaws.{form_at-word}
@@ -22,7 +22,7 @@ name_of r = lower_name (Some (lexeme_in 0 r).kind)
 
 -- ---- the first byte begins no lowercase name
 
-no_form : (b : ℕ) (bs after : List ℕ) (form : Form) → starts_lower b ≡ false → IsForm form → b ∷ bs ≡ form_bytes form ++ after → [] ≡ lower_name (Some (form_kind form))
+no_form : (b : ℕ) (bs after : List ℕ) (form : LexemeForm) → starts_lower b ≡ false → IsForm form → b ∷ bs ≡ form_bytes form ++ after → [] ≡ lower_name (Some (form_kind form))
 no_form b bs after (Lower []) e is same = absurd is.0
 no_form b bs after (Lower (n ∷ ns)) e is same = let first : b ≡ n = cc in absurd (true≢false (sym is.0.0 ∙ ap starts_lower (sym first) ∙ e))
 no_form b bs after (Reserved k) e is same = refl
@@ -35,7 +35,7 @@ no_form b bs after (Quoted cs) e is same = refl
 no_form b bs after (Double ds) e is same = refl
 no_form b bs after (Mark s) e is same = refl
 
-no_part : (b : ℕ) (bs after : List ℕ) (part : Part) → starts_lower b ≡ false → IsPart part after → b ∷ bs ≡ part_bytes part ++ after → [] ≡ name_of (Ok (part_step part))
+no_part : (b : ℕ) (bs after : List ℕ) (part : TextPart) → starts_lower b ≡ false → IsPart part after → b ∷ bs ≡ part_bytes part ++ after → [] ≡ name_of (Ok (part_step part))
 no_part b bs after (Separator s) e is same = refl
 no_part b bs after (Comment inside) e is same = refl
 no_part b bs after (Word form) e is same = no_form b bs after form e is.0.written same

@@ -7,14 +7,14 @@ use Rattle.std.proofs.lemmas.List.{take-append-drop}
 use Rattle.std.proofs.lemmas.Option.{cond_some}
 use Rattle.types_lex.specs.declared.lexeme.Keyword.{Keyword}
 use Rattle.types_lex.specs.declared.lexeme.Keyword.TheVariants as keywords
-use Rattle.types_lex.specs.Lexeme.{starts_lower, starts_name, is_name_byte, IsName, keyword_text, Form, Tag, Variable, form_bytes, IsForm, is_character}
-use Rattle.types_lex.specs.Scan.{keyword_of, cased_form, reserved_or, word_form, tag_form, variable_form}
+use Rattle.types_lex.specs.Lexeme.{starts_lower, starts_name, is_name_byte, IsName, keyword_text, LexemeForm, Tag, Variable, form_bytes, IsForm, is_character}
+use Rattle.types_lex.specs.Lexer.{keyword_of, cased_form, reserved_or, word_form, tag_form, variable_form}
 use Rattle.types_lex.proofs.WordLaws.{keyword_of-some}
 use Rattle.types_lex.proofs.NumberLaws.{prefix_passes}
 use Rattle.types_lex.proofs.CharLaws.{no_value}
 
 -- The form is valid, and the text begins with the bytes of the form.
-abbrev pub Begins : List ℕ → Form → Type 0
+abbrev pub Begins : List ℕ → LexemeForm → Type 0
 Begins text form = IsForm form × ((rest : List ℕ) × (text ≡ form_bytes form ++ rest))
 
 -- ---- classes of bytes
@@ -120,14 +120,14 @@ word-begins b bs first =
       (drop (prefix_len is_name_byte (b ∷ bs)) (b ∷ bs), run_and_rest is_name_byte (b ∷ bs) ∙ ap (λ t. t ++ drop (prefix_len is_name_byte (b ∷ bs)) (b ∷ bs)) (sym (form_bytes-word name))),
     )
 
-pub tag_form-begins : (bs : List ℕ) (form : Form) → tag_form bs ≡ Some form → Begins (96 ∷ bs) form
+pub tag_form-begins : (bs : List ℕ) (form : LexemeForm) → tag_form bs ≡ Some form → Begins (96 ∷ bs) form
 unfolding tag_form
 tag_form-begins [] form e = absurd (no_value e)
 tag_form-begins (b ∷ bs) form e =
     let p = cond_some (starts_name b) (Tag (take_while is_name_byte (b ∷ bs))) form e in
     subst (Begins (96 ∷ b ∷ bs)) p.1 (name_at starts_name b bs p.0 (name_byte-from_start b p.0), (drop (prefix_len is_name_byte (b ∷ bs)) (b ∷ bs), ap (λ t. 96 ∷ t) (run_and_rest is_name_byte (b ∷ bs))))
 
-pub variable_form-begins : (bs : List ℕ) (form : Form) → variable_form bs ≡ Some form → Begins (39 ∷ bs) form
+pub variable_form-begins : (bs : List ℕ) (form : LexemeForm) → variable_form bs ≡ Some form → Begins (39 ∷ bs) form
 unfolding variable_form
 variable_form-begins [] form e = absurd (no_value e)
 variable_form-begins (b ∷ bs) form e =

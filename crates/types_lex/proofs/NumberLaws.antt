@@ -9,7 +9,7 @@ use Rattle.std.proofs.lemmas.List.{take_more, length-take-le}
 use Rattle.types_lex.specs.declared.lexeme.LexemeKind.TheVariants as kinds
 use Rattle.types_lex.specs.Lexeme.{value_of_digit, number_in}
 use Rattle.types_lex.specs.declared.found_lexeme.FoundLexeme.{FoundLexeme}
-use Rattle.types_lex.specs.Scan.{double_form, found_at}
+use Rattle.types_lex.specs.Lexer.{double_form, found_at}
 
 power-step : (base x n : ℕ) → x * base ^ (n + 1) ≡ base * (x * base ^ n)
 power-step base x n = ap (λ (k : ℕ). x * base ^ k) (add-one n) ∙ ap (λ (k : ℕ). x * k) (pow-succ' base n) ∙ mul_left_comm x base (base ^ n)

@@ -7,12 +7,12 @@ use Rattle.std.proofs.lemmas.List.{append-nil, drop_all, drop_at, drop-drop, len
 use Rattle.types_lex.specs.declared.lexeme.Lexeme.{Lexeme}
 use Rattle.types_lex.specs.declared.lexeme.LexFault.{LexFault}
 use Rattle.types_lex.specs.declared.lexeme.LexFault.TheVariants as faults
-use Rattle.types_lex.specs.Lexeme.{Form, form_bytes, IsForm}
+use Rattle.types_lex.specs.Lexeme.{LexemeForm, form_bytes, IsForm}
 use Rattle.types_lex.specs.Lexemes.{Reached}
-use Rattle.types_lex.specs.LexText.{Part, Separator, Comment, Word, part_bytes, IsPart, AreParts, lexemes_of, Breaks, Lexes, Faults, UnlessMemory, Answers, Outcome, HasOneOutcome, SpansWithin}
+use Rattle.types_lex.specs.LexText.{TextPart, Separator, Comment, Word, part_bytes, IsPart, AreParts, lexemes_of, Breaks, Lexes, Faults, UnlessMemory, Answers, Outcome, HasOneOutcome, SpansWithin}
 use Rattle.types_lex.specs.declared.found_lexeme.LexStep.{LexStep}
 use Rattle.types_lex.specs.declared.found_lexeme.LexStep.TheVariants as steps
-use Rattle.types_lex.specs.Scan.{form_at, step_at, moved, position_of}
+use Rattle.types_lex.specs.Lexer.{form_at, step_at, moved, position_of}
 use Rattle.types_lex.proofs.CharLaws.{no_value}
 use Rattle.types_lex.proofs.PrefixLaws.{form-found}
 use Rattle.types_lex.proofs.StepLaws.{part_step, step-part}
@@ -28,18 +28,18 @@ abbrev pub step_lexemes : ℕ → LexStep → List Lexeme
 step_lexemes position (steps.Gap len) = []
 step_lexemes position (steps.Word word) = record { kind = word.kind; span = record { first = position; len = word.len } } ∷ []
 
-step_len-part : (part : Part) → step_len (part_step part) ≡ length (part_bytes part)
+step_len-part : (part : TextPart) → step_len (part_step part) ≡ length (part_bytes part)
 step_len-part (Separator b) = refl
 step_len-part (Comment inside) = refl
 step_len-part (Word form) = refl
 
-lexemes_of-cons : (position : ℕ) (part : Part) (parts : List Part) → lexemes_of position (part ∷ parts) ≡ step_lexemes position (part_step part) ++ lexemes_of (position + step_len (part_step part)) parts
+lexemes_of-cons : (position : ℕ) (part : TextPart) (parts : List TextPart) → lexemes_of position (part ∷ parts) ≡ step_lexemes position (part_step part) ++ lexemes_of (position + step_len (part_step part)) parts
 lexemes_of-cons position (Separator b) parts = refl
 lexemes_of-cons position (Comment inside) parts = refl
 lexemes_of-cons position (Word form) parts = refl
 
 -- The bytes of a valid form are not empty.
-form-positive : (form : Form) → IsForm form → 0 < length (form_bytes form)
+form-positive : (form : LexemeForm) → IsForm form → 0 < length (form_bytes form)
 unfolding form_at
 form-positive form is = by_bytes (form_bytes form) (form-found form [] is).1
   where
@@ -47,21 +47,21 @@ form-positive form is = by_bytes (form_bytes form) (form-found form [] is).1
     by_bytes [] e = absurd (no_value e)
     by_bytes (b ∷ bs) e = omega arith
 
-part-positive : (part : Part) (after : List ℕ) → IsPart part after → 0 < length (part_bytes part)
+part-positive : (part : TextPart) (after : List ℕ) → IsPart part after → 0 < length (part_bytes part)
 part-positive (Separator b) after is = omega arith
 part-positive (Comment inside) after is = omega arith
 part-positive (Word form) after is = form-positive form is.0.written
 
 -- ---- one more part
 
-bytes_push : (parts : List Part) (part : Part) (rest : List ℕ) → flat_map part_bytes (parts ++ part ∷ []) ++ rest ≡ flat_map part_bytes parts ++ (part_bytes part ++ rest)
+bytes_push : (parts : List TextPart) (part : TextPart) (rest : List ℕ) → flat_map part_bytes (parts ++ part ∷ []) ++ rest ≡ flat_map part_bytes parts ++ (part_bytes part ++ rest)
 bytes_push parts part rest = ap (λ t. t ++ rest) (sym (flat_map_more part_bytes [] parts part)) ∙ append_assoc (flat_map part_bytes parts) (part_bytes part) rest
 
-are_push : (parts : List Part) (part : Part) (rest : List ℕ) → AreParts parts (part_bytes part ++ rest) → IsPart part rest → AreParts (parts ++ part ∷ []) rest
+are_push : (parts : List TextPart) (part : TextPart) (rest : List ℕ) → AreParts parts (part_bytes part ++ rest) → IsPart part rest → AreParts (parts ++ part ∷ []) rest
 are_push [] part rest are is = (is, tt)
 are_push (p ∷ parts) part rest are is = (subst (IsPart p) (sym (bytes_push parts part rest)) are.0, are_push parts part rest are.1 is)
 
-lexemes_push : (position : ℕ) (parts : List Part) (part : Part) → lexemes_of position (parts ++ part ∷ []) ≡ lexemes_of position parts ++ step_lexemes (position + length (flat_map part_bytes parts)) (part_step part)
+lexemes_push : (position : ℕ) (parts : List TextPart) (part : TextPart) → lexemes_of position (parts ++ part ∷ []) ≡ lexemes_of position parts ++ step_lexemes (position + length (flat_map part_bytes parts)) (part_step part)
 lexemes_push position [] part =
     lexemes_of-cons position part [] ∙ append-nil (step_lexemes position (part_step part)) ∙ ap (λ n. step_lexemes n (part_step part)) (omega arith)
 lexemes_push position (p ∷ parts) part =
@@ -119,12 +119,12 @@ reached_end text at lexemes r end =
 abbrev Stops : List ℕ → Type 0
 Stops text = (step : LexStep) → step_at text ≢ Ok step
 
-record Same (ps qs : List Part) (r s : List ℕ) : Type 0 where
+record Same (ps qs : List TextPart) (r s : List ℕ) : Type 0 where
   bytes : length (flat_map part_bytes ps) ≡ length (flat_map part_bytes qs)
   lexemes : (position : ℕ) → lexemes_of position ps ≡ lexemes_of position qs
   rest : r ≡ s
 
-same_parts : (ps qs : List Part) (r s : List ℕ) → AreParts ps r → AreParts qs s → flat_map part_bytes ps ++ r ≡ flat_map part_bytes qs ++ s → Stops r → Stops s → Same ps qs r s
+same_parts : (ps qs : List TextPart) (r s : List ℕ) → AreParts ps r → AreParts qs s → flat_map part_bytes ps ++ r ≡ flat_map part_bytes qs ++ s → Stops r → Stops s → Same ps qs r s
 same_parts [] [] r s are bre e stop ttop = record { bytes = refl; lexemes = λ position. refl; rest = e }
 same_parts [] (q ∷ qs) r s are bre e stop ttop =
     absurd (stop (part_step q) (ap step_at (e ∙ append_assoc (part_bytes q) (flat_map part_bytes qs) s) ∙ step-part q (flat_map part_bytes qs ++ s) bre.0))
@@ -264,7 +264,7 @@ spans_earlier : (low from : ℕ) (xs : List Lexeme) (end : ℕ) → low ≤ from
 spans_earlier low from [] end le spans = omega (arith, spans)
 spans_earlier low from (x ∷ xs) end le spans = (omega (arith, spans.0), spans.1, spans.2)
 
-spans_of : (position : ℕ) (parts : List Part) (rest : List ℕ) → AreParts parts rest → SpansWithin position (lexemes_of position parts) (position + length (flat_map part_bytes parts))
+spans_of : (position : ℕ) (parts : List TextPart) (rest : List ℕ) → AreParts parts rest → SpansWithin position (lexemes_of position parts) (position + length (flat_map part_bytes parts))
 spans_of position [] rest are = omega arith
 spans_of position (Separator b ∷ parts) rest are =
     let later = spans_of (position + 1) parts rest are.1 in
@@ -299,13 +299,13 @@ spans_within text (Err fault) is = tt
 
 -- The text is a sequence of parts that ends at the end of the text or at a fault.
 record Read (text : List ℕ) : Type 0 where
-  parts : List Part
+  parts : List TextPart
   rest : List ℕ
   are : AreParts parts rest
   is : text ≡ flat_map part_bytes parts ++ rest
   ending : (rest ≡ []) ⊎ ((fault : LexFault) × IsFaultAt rest fault)
 
-read_more : (part : Part) (after : List ℕ) → IsPart part after → Read after → Read (part_bytes part ++ after)
+read_more : (part : TextPart) (after : List ℕ) → IsPart part after → Read after → Read (part_bytes part ++ after)
 read_more part after is read = record {
   parts = part ∷ read.parts;
   rest = read.rest;

@@ -11,31 +11,31 @@ use Rattle.types_lex.specs.declared.lexeme.Suffix.{Suffix}
 use Rattle.types_lex.specs.declared.lexeme.Suffix.TheVariants as suffixes
 use Rattle.types_lex.specs.declared.lexeme.Symbol.{Symbol}
 use Rattle.types_lex.specs.declared.lexeme.Symbol.TheVariants as symbols
-use Rattle.types_lex.specs.Lexeme.{starts_lower, starts_name, is_name_byte, CharForm, char_bytes, IsCharForm, keyword_text, minus_text, suffix_text, symbol_text, Form, Reserved, Lower, Upper, Tag, Variable, Character, Number, Quoted, Double, Mark, form_bytes, IsForm, is_character}
-use Rattle.types_lex.specs.Scan.{closed_char, character_form, quote_form, variable_form, tag_form, word_form, char_at, string_form, suffix_at, number_form, double_form, pair_symbol, pair_at, single_symbol, or_symbol, symbol_form, form_at}
+use Rattle.types_lex.specs.Lexeme.{starts_lower, starts_name, is_name_byte, CharForm, char_bytes, IsCharForm, keyword_text, minus_text, suffix_text, symbol_text, LexemeForm, Reserved, Lower, Upper, Tag, Variable, Character, Number, Quoted, Double, Mark, form_bytes, IsForm, is_character}
+use Rattle.types_lex.specs.Lexer.{closed_char, character_form, quote_form, variable_form, tag_form, word_form, char_at, string_form, suffix_at, number_form, double_form, pair_symbol, pair_at, single_symbol, or_symbol, symbol_form, form_at}
 use Rattle.types_lex.proofs.CharLaws.{no_value, char_at-form, chars_of-forms}
 use Rattle.types_lex.proofs.NameLaws.{apart, take_while-more, keyword_of-keyword, keyword_of-other, form_bytes-word, is_character-word}
 use Rattle.types_lex.proofs.SymbolLaws.{pair_at-is}
 
 -- Either `form` is a character and `other` is no character, or `form` is longer and neither form is
 -- a character.
-abbrev pub Beats : Form → Form → Type 0
+abbrev pub Beats : LexemeForm → LexemeForm → Type 0
 Beats form other =
     ((is_character form ≡ true) × (is_character other ≡ false))
     ⊎ ((is_character form ≡ false) × (is_character other ≡ false) × (length (form_bytes other) < length (form_bytes form)))
 
-abbrev pub Wins : Form → Form → Type 0
+abbrev pub Wins : LexemeForm → LexemeForm → Type 0
 Wins form other = (form ≡ other) ⊎ Beats form other
 
 -- The lexer finds a form that is `other` or takes precedence over `other`.
-abbrev pub IsFound : List ℕ → Form → Type 0
-IsFound text other = (form : Form) × (form_at text ≡ Some form) × Wins form other
+abbrev pub IsFound : List ℕ → LexemeForm → Type 0
+IsFound text other = (form : LexemeForm) × (form_at text ≡ Some form) × Wins form other
 
 -- ---- names
 
 -- A form that extends as far as its name extends.
-module _ (make : List ℕ → Form) (mark : ℕ) (long : (name : List ℕ) → length (form_bytes (make name)) ≡ mark + length name) (plain : (name : List ℕ) → is_character (make name) ≡ false) where
-  goes_on : (name extra : List ℕ) (other : Form) → make name ≡ other → Wins (make (name ++ extra)) other
+module _ (make : List ℕ → LexemeForm) (mark : ℕ) (long : (name : List ℕ) → length (form_bytes (make name)) ≡ mark + length name) (plain : (name : List ℕ) → is_character (make name) ≡ false) where
+  goes_on : (name extra : List ℕ) (other : LexemeForm) → make name ≡ other → Wins (make (name ++ extra)) other
   goes_on name [] other is = inl (ap make (append-nil name) ∙ is)
   goes_on name (e ∷ es) other is =
       let longer : length (form_bytes other) < length (form_bytes (make (name ++ e ∷ es))) =
@@ -48,7 +48,7 @@ form_at-word b bs first =
     rw (apart starts_name 34 b refl first, apart starts_name 39 b refl first, apart starts_name 96 b refl first, apart starts_name 36 b refl first, apart starts_name 45 b refl first, first) refl
 
 -- If a text begins with a name, then the lexer finds the word or a longer word.
-word-found : (b : ℕ) (bs more : List ℕ) (other : Form) → starts_name b ≡ true → list_all is_name_byte (b ∷ bs) ≡ true → word_form (b ∷ bs) ≡ other → IsFound (b ∷ bs ++ more) other
+word-found : (b : ℕ) (bs more : List ℕ) (other : LexemeForm) → starts_name b ≡ true → list_all is_name_byte (b ∷ bs) ≡ true → word_form (b ∷ bs) ≡ other → IsFound (b ∷ bs ++ more) other
 word-found b bs more other first name is =
     let run : take_while is_name_byte (b ∷ (bs ++ more)) ≡ b ∷ bs ++ take_while is_name_byte more = take_while-more is_name_byte (b ∷ bs) more name in (
       word_form (take_while is_name_byte (b ∷ (bs ++ more))),
@@ -101,7 +101,7 @@ variable_form-found : (b : ℕ) (bs more : List ℕ) → starts_lower b ≡ true
 unfolding variable_form
 variable_form-found b bs more first = rw first refl
 
-is_character-closed : (bs : List ℕ) (o : Option CharForm) (form : Form) → closed_char bs o ≡ Some form → is_character form ≡ true
+is_character-closed : (bs : List ℕ) (o : Option CharForm) (form : LexemeForm) → closed_char bs o ≡ Some form → is_character form ≡ true
 is_character-closed bs None form e = absurd (no_value e)
 is_character-closed bs (Some c) form e = sym (ap is_character (cond_some _ (Character c) form e).1)
 
@@ -112,7 +112,7 @@ variable-found b bs more first name = by_character (character_form (b ∷ bs ++ 
     run : take_while is_name_byte (b ∷ (bs ++ more)) ≡ b ∷ bs ++ take_while is_name_byte more
     run = take_while-more is_name_byte (b ∷ bs) more name
 
-    by_character : (o : Option Form) → character_form (b ∷ bs ++ more) ≡ o → IsFound (39 ∷ b ∷ bs ++ more) (Variable (b ∷ bs))
+    by_character : (o : Option LexemeForm) → character_form (b ∷ bs ++ more) ≡ o → IsFound (39 ∷ b ∷ bs ++ more) (Variable (b ∷ bs))
     by_character (Some f) at = (f, rw at refl, inr (inl (is_character-closed (b ∷ bs ++ more) (char_at 39 (b ∷ bs ++ more)) f at, refl)))
     by_character None at = (
       Variable (take_while is_name_byte (b ∷ (bs ++ more))),
@@ -178,7 +178,7 @@ number-wins minus ds [] suffixes.Int64 = number-longer minus ds [] suffixes.Int6
 number-wins minus ds [] suffixes.Native = number-longer minus ds [] suffixes.Native (omega (arith, length-append ds []))
 
 number_form-found : (minus : Bool) (d : ℕ) (ds : List ℕ) (s : Suffix) (more : List ℕ) → list_all is_ascii_digit (d ∷ ds) ≡ true
-    → (form : Form) × (number_form minus (d ∷ ds ++ (suffix_text s ++ more)) ≡ Some form) × Wins form (Number minus (d ∷ ds) s)
+    → (form : LexemeForm) × (number_form minus (d ∷ ds ++ (suffix_text s ++ more)) ≡ Some form) × Wins form (Number minus (d ∷ ds) s)
 unfolding suffix_at
 number_form-found minus d ds suffixes.Absent more digits = (_, number_form-run minus d ds more digits, number-wins minus (d ∷ ds) (take_while is_ascii_digit more) _)
 number_form-found minus d ds suffixes.Int32 more digits = (_, number_form-run minus d ds (108 ∷ more) digits, inl (ap (λ t. Number minus t suffixes.Int32) (append-nil (d ∷ ds))))
@@ -208,11 +208,11 @@ number-found false d ds s more digits =
 
 -- ---- symbols
 
-symbol_form-found : (a : ℕ) (s : Symbol) (more : List ℕ) → symbol_text s ≡ a ∷ [] → single_symbol a ≡ Some s → (form : Form) × (symbol_form a more ≡ Some form) × Wins form (Mark s)
+symbol_form-found : (a : ℕ) (s : Symbol) (more : List ℕ) → symbol_text s ≡ a ∷ [] → single_symbol a ≡ Some s → (form : LexemeForm) × (symbol_form a more ≡ Some form) × Wins form (Mark s)
 unfolding symbol_form
 symbol_form-found a s more text single = by_pair (pair_at a more) refl
   where
-    by_pair : (o : Option Symbol) → pair_at a more ≡ o → (form : Form) × (or_symbol (pair_at a more) (single_symbol a) ≡ Some form) × Wins form (Mark s)
+    by_pair : (o : Option Symbol) → pair_at a more ≡ o → (form : LexemeForm) × (or_symbol (pair_at a more) (single_symbol a) ≡ Some form) × Wins form (Mark s)
     by_pair None at = (Mark s, rw (at, single) refl, inl refl)
     by_pair (Some p) at = (Mark p, rw at refl, inr (inr (refl, refl, omega (arith, ap length text, (pair_at-is a more p at).2))))
 
@@ -241,7 +241,7 @@ mark-found symbols.Hash more = symbol_form-found 35 _ more refl refl
 
 -- If a text begins with the form `other`, then the lexer finds `other` or a form that takes
 -- precedence over `other`.
-pub form-found : (other : Form) (more : List ℕ) → IsForm other → IsFound (form_bytes other ++ more) other
+pub form-found : (other : LexemeForm) (more : List ℕ) → IsForm other → IsFound (form_bytes other ++ more) other
 form-found (Reserved k) more is = reserved-found k more
 form-found (Lower []) more is = absurd is.0
 form-found (Lower (b ∷ bs)) more is = word-found b bs more _ (or_left _ _ is.0.0) is.0.1 (word_form-lower b bs is.0.0 is.1)

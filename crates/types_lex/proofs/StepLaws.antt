@@ -4,17 +4,17 @@ use Rattle.std.specs.List.{flat_map}
 use Rattle.std.proofs.lemmas.Bool.{false≢true, true≢false, ne_eqb, eqb-true, and_parts, or_cases, false_from_ne_true, le-leb, lt-leb, leb-true, leb-false}
 use Rattle.std.proofs.lemmas.Option.{cond_some}
 use Rattle.types_lex.specs.declared.lexeme.LexFault.TheVariants as faults
-use Rattle.types_lex.specs.Lexeme.{is_separator, number_in, greatest, Form, Reserved, Lower, Upper, Tag, Variable, Character, Number, Quoted, Double, Mark, form_bytes, IsInRange, IsTooBig}
-use Rattle.types_lex.specs.LexText.{Cut, cut_bytes, IsInside, IsTaken, Part, Separator, Comment, Word, part_bytes, IsPart}
+use Rattle.types_lex.specs.Lexeme.{is_separator, number_in, greatest, LexemeForm, Reserved, Lower, Upper, Tag, Variable, Character, Number, Quoted, Double, Mark, form_bytes, IsInRange, IsTooBig}
+use Rattle.types_lex.specs.LexText.{Cut, cut_bytes, IsInside, IsTaken, TextPart, Separator, Comment, Word, part_bytes, IsPart}
 use Rattle.types_lex.specs.declared.found_lexeme.LexStep.{LexStep}
 use Rattle.types_lex.specs.declared.found_lexeme.LexStep.TheVariants as steps
-use Rattle.types_lex.specs.Scan.{begins_with, chars_of, string_form, pair_at, pair_symbol, single_symbol, symbol_form, form_at, in_range, found, found_at, string_at, lexeme_at, closing, gap_of, word_of, step_at}
+use Rattle.types_lex.specs.Lexer.{begins_with, chars_of, string_form, pair_at, pair_symbol, single_symbol, symbol_form, form_at, in_range, found, found_at, string_at, lexeme_at, closing, gap_of, word_of, step_at}
 use Rattle.types_lex.proofs.CharLaws.{chosen, no_value}
 use Rattle.types_lex.proofs.FormLaws.{begins_with-is}
 use Rattle.types_lex.proofs.TakenLaws.{found-taken}
 use Rattle.types_lex.proofs.InsideLaws.{inside_text, closing-inside}
 
-abbrev pub part_step : Part → LexStep
+abbrev pub part_step : TextPart → LexStep
 part_step (Separator b) = steps.Gap 1
 part_step (Comment inside) = steps.Gap (length (part_bytes (Comment inside)))
 part_step (Word form) = steps.Word (found form)
@@ -63,7 +63,7 @@ no_comment b bs more e is =
 
 -- ---- a form at the start of a text
 
-pub string_form-at : (bs : List ℕ) (form : Form) → string_form bs ≡ Some form → string_at bs ≡ found_at (Some form)
+pub string_form-at : (bs : List ℕ) (form : LexemeForm) → string_form bs ≡ Some form → string_at bs ≡ found_at (Some form)
 unfolding string_form string_at
 string_form-at bs form e =
     let read = chars_of (length bs) bs in
@@ -71,7 +71,7 @@ string_form-at bs form e =
     let close = begins_with-is 34 read.1 p.0 in
     rw (close.1, ← p.1) refl
 
-pub lexeme-some : (text : List ℕ) (form : Form) → form_at text ≡ Some form → lexeme_at text ≡ found_at (Some form)
+pub lexeme-some : (text : List ℕ) (form : LexemeForm) → form_at text ≡ Some form → lexeme_at text ≡ found_at (Some form)
 unfolding lexeme_at form_at
 lexeme-some [] form e = absurd (no_value e)
 lexeme-some (b ∷ bs) form e =
@@ -90,11 +90,11 @@ pub step-lexeme : (b : ℕ) (bs : List ℕ) → is_separator b ≡ false → (eq
 unfolding step_at
 step-lexeme b bs no_separator no_bracket = rw (no_separator, no_bracket) refl
 
-pub no_separator-form : (b : ℕ) (bs : List ℕ) (form : Form) → form_at (b ∷ bs) ≡ Some form → is_separator b ≡ false
+pub no_separator-form : (b : ℕ) (bs : List ℕ) (form : LexemeForm) → form_at (b ∷ bs) ≡ Some form → is_separator b ≡ false
 no_separator-form b bs form e = false_from_ne_true _ (λ sep. no_value (sym (separator_no_form b bs sep) ∙ e))
 
 -- If a form is the lexeme of the grammar at the start of the text, then the step finds the form.
-pub step-taken : (text : List ℕ) (form : Form) (after : List ℕ) → text ≡ form_bytes form ++ after → IsTaken form after → step_at text ≡ word_of (found_at (Some form))
+pub step-taken : (text : List ℕ) (form : LexemeForm) (after : List ℕ) → text ≡ form_bytes form ++ after → IsTaken form after → step_at text ≡ word_of (found_at (Some form))
 unfolding form_at
 step-taken text form after is taken = by_text text is (ap form_at is ∙ found-taken form after taken)
   where
@@ -104,7 +104,7 @@ step-taken text form after is taken = by_text text is (ap form_at is ∙ found-t
         step-lexeme b bs (no_separator-form b bs form e) (no_comment_test b bs (λ more c. taken.no_comment more (sym is ∙ c)))
         ∙ ap word_of (lexeme-some (b ∷ bs) form e)
 
-in_range-is : (form : Form) → IsInRange form → in_range form ≡ true
+in_range-is : (form : LexemeForm) → IsInRange form → in_range form ≡ true
 in_range-is (Reserved k) h = refl
 in_range-is (Lower name) h = refl
 in_range-is (Upper name) h = refl
@@ -116,7 +116,7 @@ in_range-is (Quoted cs) h = refl
 in_range-is (Double ds) h = refl
 in_range-is (Mark s) h = refl
 
-pub is-in_range : (form : Form) → in_range form ≡ true → IsInRange form
+pub is-in_range : (form : LexemeForm) → in_range form ≡ true → IsInRange form
 is-in_range (Reserved k) h = tt
 is-in_range (Lower name) h = tt
 is-in_range (Upper name) h = tt
@@ -128,11 +128,11 @@ is-in_range (Quoted cs) h = tt
 is-in_range (Double ds) h = tt
 is-in_range (Mark s) h = tt
 
-pub too_big-is : (form : Form) → IsTooBig form → in_range form ≡ false
+pub too_big-is : (form : LexemeForm) → IsTooBig form → in_range form ≡ false
 too_big-is (Number minus digits s) h = lt-leb (number_in 10 digits) (greatest minus) h
 too_big-is form h = absurd h
 
-pub is-too_big : (form : Form) → in_range form ≡ false → IsTooBig form
+pub is-too_big : (form : LexemeForm) → in_range form ≡ false → IsTooBig form
 is-too_big (Number minus digits s) h = leb-false (number_in 10 digits) (greatest minus) h
 is-too_big (Reserved k) h = true≢false h
 is-too_big (Lower name) h = true≢false h
@@ -156,7 +156,7 @@ step-comment inside after is =
     let long : length (flat_map cut_bytes inside) + 2 + 2 ≡ length (part_bytes (Comment inside)) = omega (arith, length-append (flat_map cut_bytes inside) (42 ∷ 41 ∷ [])) in
     ap (λ t. gap_of (closing 0 t)) (comment_regrouped inside after) ∙ ap gap_of end ∙ ap (λ n. Ok (steps.Gap n)) long
 
-pub step-part : (part : Part) (after : List ℕ) → IsPart part after → step_at (part_bytes part ++ after) ≡ Ok (part_step part)
+pub step-part : (part : TextPart) (after : List ℕ) → IsPart part after → step_at (part_bytes part ++ after) ≡ Ok (part_step part)
 unfolding step_at
 step-part (Separator b) after is = rw is refl
 step-part (Comment inside) after is = step-comment inside after is

@@ -6,7 +6,7 @@ use Rattle.types_lex.specs.declared.lexeme.Symbol.TheVariants as symbols
 use Rattle.types_lex.specs.Lexeme.{symbol_text}
 use Rattle.types_lex.specs.declared.lexeme.LexemeKind.TheVariants as kinds
 use Rattle.types_lex.specs.declared.found_lexeme.FoundLexeme.{FoundLexeme}
-use Rattle.types_lex.specs.Scan.{pair_symbol, single_symbol, pair_at, symbol_form, found_at}
+use Rattle.types_lex.specs.Lexer.{pair_symbol, single_symbol, pair_at, symbol_form, found_at}
 
 -- If a chain of tests returns a symbol, then the first test or a later test returns the symbol.
 tested : (test : Bool) (x s : Symbol) (others : Option Symbol) → cond test (Some x) others ≡ Some s → ((test ≡ true) × (x ≡ s)) ⊎ (others ≡ Some s)

@@ -9,7 +9,7 @@ use Rattle.std.proofs.lemmas.List.Folds.{length-prefix_len}
 use Rattle.types_lex.specs.declared.lexeme.LexemeKind.TheVariants as kinds
 use Rattle.types_lex.specs.Lexeme.{keyword_text, is_name_byte}
 use Rattle.types_lex.specs.declared.found_lexeme.FoundLexeme.{FoundLexeme}
-use Rattle.types_lex.specs.Scan.{keyword_of, word_form, found}
+use Rattle.types_lex.specs.Lexer.{keyword_of, word_form, found}
 
 -- If a chain of tests returns a keyword, then the name is the text of the keyword or a later test
 -- returns the keyword.

@@ -7,7 +7,8 @@ use Rattle.std.specs.List.{flat_map, AllByRecursion}
 use Rattle.types_lex.specs.declared.lexeme.Lexeme.{Lexeme}
 use Rattle.types_lex.specs.declared.lexeme.LexFault.{LexFault}
 use Rattle.types_lex.specs.declared.lexeme.LexFault.TheVariants as faults
-use Rattle.types_lex.specs.Lexeme.{is_separator, CharForm, char_bytes, IsCharForm, Form, form_bytes}
+use Rattle.types_lex.specs.Lexeme.{is_separator, CharForm, char_bytes, IsCharForm, LexemeForm}
+use Rattle.types_lex.specs.Lexeme.{form_bytes}
 use Rattle.types_lex.specs.Lexeme.{form_kind, IsForm, IsInRange, IsTooBig, Precedes}
 
 -- ---- comments: 40 is `(`, 42 is `*`, 41 is `)`
@@ -60,36 +61,36 @@ IsInside cuts after = Nests 0 cuts × IsCut cuts (42 ∷ 41 ∷ after)
 
 -- The form is the lexeme at the start of the text. The bytes `(*` begin no lexeme. Among all forms
 -- with which the text begins, the lexeme takes precedence.
-pub record IsTaken (form : Form) (after : List ℕ) : Type 0 where
+pub record IsTaken (form : LexemeForm) (after : List ℕ) : Type 0 where
   pub written : IsForm form
   pub no_comment : (more : List ℕ) → form_bytes form ++ after ≢ 40 ∷ 42 ∷ more
-  pub first : (other : Form) (more : List ℕ) → IsForm other
+  pub first : (other : LexemeForm) (more : List ℕ) → IsForm other
       → form_bytes other ++ more ≡ form_bytes form ++ after → Precedes form other
 
 -- A part of a text: a separator, a comment, or a lexeme.
-pub data Part : Type 0 where
-  Separator : (b : ℕ) → Part
-  Comment : (inside : List Cut) → Part
-  Word : (form : Form) → Part
+pub data TextPart : Type 0 where
+  Separator : (b : ℕ) → TextPart
+  Comment : (inside : List Cut) → TextPart
+  Word : (form : LexemeForm) → TextPart
 
-abbrev pub part_bytes : Part → List ℕ
+abbrev pub part_bytes : TextPart → List ℕ
 part_bytes (Separator b) = b ∷ []
 part_bytes (Comment inside) = 40 ∷ 42 ∷ (flat_map cut_bytes inside ++ 42 ∷ 41 ∷ [])
 part_bytes (Word form) = form_bytes form
 
 -- The part may precede the bytes `after`.
-abbrev pub IsPart : Part → List ℕ → Type 0
+abbrev pub IsPart : TextPart → List ℕ → Type 0
 IsPart (Separator b) after = IsTrue (is_separator b)
 IsPart (Comment inside) after = IsInside inside after
 IsPart (Word form) after = IsTaken form after × IsInRange form
 
 -- Each part may precede the later parts and the bytes `rest`.
-abbrev pub AreParts : List Part → List ℕ → Type 0
+abbrev pub AreParts : List TextPart → List ℕ → Type 0
 AreParts [] rest = Unit {0}
 AreParts (part ∷ parts) rest = IsPart part (flat_map part_bytes parts ++ rest) × AreParts parts rest
 
 -- The lexemes among the parts, if the first part begins at position `position`.
-abbrev pub lexemes_of : ℕ → List Part → List Lexeme
+abbrev pub lexemes_of : ℕ → List TextPart → List Lexeme
 lexemes_of position [] = []
 lexemes_of position (Word form ∷ parts) =
     record
@@ -117,7 +118,7 @@ pub record StartsNothing (text : List ℕ) : Type 0 where
   pub is : text ≡ byte ∷ others
   pub no_separator : is_separator byte ≡ false
   pub no_string : byte ≢ 34
-  pub no_form : (form : Form) (after : List ℕ) → IsForm form → form_bytes form ++ after ≢ text
+  pub no_form : (form : LexemeForm) (after : List ℕ) → IsForm form → form_bytes form ++ after ≢ text
 
 -- In a string that begins at position `position`, a backslash begins no valid escape. The fault is
 -- at the byte after the backslash.
@@ -140,7 +141,7 @@ IsOpenComment text =
 -- The lexeme at the start of the text is an integer that does not fit in 64 bits.
 abbrev pub IsOverlong : List ℕ → Type 0
 IsOverlong text =
-    (form : Form) × (after : List ℕ) × (text ≡ form_bytes form ++ after) × IsTaken form after
+    (form : LexemeForm) × (after : List ℕ) × (text ≡ form_bytes form ++ after) × IsTaken form after
     × IsTooBig form
 
 -- The fault is at the start of the text. The text begins at position `position`.
@@ -157,13 +158,13 @@ Breaks position text faults.Memory = ⊥
 -- The text is a sequence of parts, and `lexemes` are the lexemes among the parts.
 abbrev pub Lexes : List ℕ → List Lexeme → Type 0
 Lexes text lexemes =
-    (parts : List Part) × AreParts parts [] × (text ≡ flat_map part_bytes parts)
+    (parts : List TextPart) × AreParts parts [] × (text ≡ flat_map part_bytes parts)
     × (lexemes ≡ lexemes_of 0 parts)
 
 -- The text is a sequence of parts, followed by the fault.
 abbrev pub Faults : List ℕ → LexFault → Type 0
 Faults text fault =
-    (parts : List Part) × (rest : List ℕ) × AreParts parts rest
+    (parts : List TextPart) × (rest : List ℕ) × AreParts parts rest
     × (text ≡ flat_map part_bytes parts ++ rest)
     × Breaks (length (flat_map part_bytes parts)) rest fault
 

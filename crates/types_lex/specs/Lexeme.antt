@@ -139,20 +139,20 @@ minus_text true = codes "-"
 minus_text false = []
 
 -- A lexeme as written in a text.
-pub data Form : Type 0 where
-  Reserved : (keyword : Keyword) → Form
-  Lower : (name : List ℕ) → Form
-  Upper : (name : List ℕ) → Form
-  Tag : (name : List ℕ) → Form
-  Variable : (name : List ℕ) → Form
-  Character : (char : CharForm) → Form
-  Number : (minus : Bool) (digits : List ℕ) (suffix : Suffix) → Form
-  Quoted : (chars : List CharForm) → Form
-  Double : (digits : List ℕ) → Form
-  Mark : (symbol : Symbol) → Form
+pub data LexemeForm : Type 0 where
+  Reserved : (keyword : Keyword) → LexemeForm
+  Lower : (name : List ℕ) → LexemeForm
+  Upper : (name : List ℕ) → LexemeForm
+  Tag : (name : List ℕ) → LexemeForm
+  Variable : (name : List ℕ) → LexemeForm
+  Character : (char : CharForm) → LexemeForm
+  Number : (minus : Bool) (digits : List ℕ) (suffix : Suffix) → LexemeForm
+  Quoted : (chars : List CharForm) → LexemeForm
+  Double : (digits : List ℕ) → LexemeForm
+  Mark : (symbol : Symbol) → LexemeForm
 
 -- The bytes of a form. Byte 96 is a backquote, and byte 36 is `$`.
-abbrev pub form_bytes : Form → List ℕ
+abbrev pub form_bytes : LexemeForm → List ℕ
 form_bytes (Reserved k) = keyword_text k
 form_bytes (Lower name) = name
 form_bytes (Upper name) = name
@@ -165,7 +165,7 @@ form_bytes (Double digits) = 36 ∷ digits
 form_bytes (Mark s) = symbol_text s
 
 -- The kind of lexeme that a form denotes.
-abbrev pub form_kind : Form → LexemeKind
+abbrev pub form_kind : LexemeForm → LexemeKind
 form_kind (Reserved k) = kinds.Keyword k
 form_kind (Lower name) = kinds.Lower name
 form_kind (Upper name) = kinds.Upper name
@@ -181,7 +181,7 @@ form_kind (Mark s) = kinds.Symbol s
 
 -- The form is valid. A lowercase name is no keyword, but the names of tags and variables may be
 -- keywords.
-abbrev pub IsForm : Form → Type 0
+abbrev pub IsForm : LexemeForm → Type 0
 IsForm (Reserved k) = Unit {0}
 IsForm (Lower name) = IsName starts_lower name × ((k : Keyword) → name ≢ keyword_text k)
 IsForm (Upper name) = IsName is_ascii_uppercase name
@@ -194,21 +194,21 @@ IsForm (Double digits) = (length digits ≡ 16) × IsTrue (list_all is_ascii_hex
 IsForm (Mark s) = Unit {0}
 
 -- If the form is an integer, then the integer fits in 64 bits.
-abbrev pub IsInRange : Form → Type 0
+abbrev pub IsInRange : LexemeForm → Type 0
 IsInRange (Number minus digits suffix) = number_in 10 digits ≤ greatest minus
 IsInRange form = Unit {0}
 
-abbrev pub IsTooBig : Form → Type 0
+abbrev pub IsTooBig : LexemeForm → Type 0
 IsTooBig (Number minus digits suffix) = greatest minus < number_in 10 digits
 IsTooBig form = ⊥
 
-abbrev pub is_character : Form → Bool
+abbrev pub is_character : LexemeForm → Bool
 is_character (Character c) = true
 is_character form = false
 
 -- If a text begins with both forms, then `form` takes precedence over `other`. A character precedes
 -- all other forms. If neither form is a character, the longer form precedes the shorter form.
-abbrev pub Precedes : Form → Form → Type 0
+abbrev pub Precedes : LexemeForm → LexemeForm → Type 0
 Precedes form other =
     IsTrue (is_character form)
     ⊎ ((is_character other ≡ false) × (length (form_bytes other) ≤ length (form_bytes form)))

@@ -9,9 +9,9 @@ use Rattle.types_lex.specs.declared.lexeme.LexemeKind.TheVariants as kinds
 use Rattle.types_lex.specs.declared.lexeme.LexFault.{LexFault}
 use Rattle.types_lex.specs.declared.found_lexeme.LexStep.{LexStep}
 use Rattle.types_lex.specs.declared.found_lexeme.LexStep.TheVariants.{Word}
-use Rattle.types_lex.specs.LexText.{Part, part_bytes, AreParts, lexemes_of, Lexes, Faults}
+use Rattle.types_lex.specs.LexText.{TextPart, part_bytes, AreParts, lexemes_of, Lexes, Faults}
 use Rattle.types_lex.specs.LexText.{UnlessMemory}
-use Rattle.types_lex.specs.Scan.{step_at}
+use Rattle.types_lex.specs.Lexer.{step_at}
 
 -- The lexeme of a step at a position. If the step has no lexeme, then the result is a keyword of
 -- length 0.
@@ -32,7 +32,7 @@ lower_name kind = []
 
 -- The text up to position `at` consists of parts, and `lexemes` are the lexemes among the parts.
 pub record Reached (text : List ℕ) (at : ℕ) (lexemes : List Lexeme) : Type 0 where
-  pub parts : List Part
+  pub parts : List TextPart
   pub are : AreParts parts (drop at text)
   pub is : text ≡ flat_map part_bytes parts ++ drop at text
   pub long : at ≡ length (flat_map part_bytes parts)

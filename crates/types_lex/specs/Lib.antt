@@ -1,6 +1,6 @@
 pub mod LexText
 pub mod Lexeme
 pub mod Lexemes
-pub mod Scan
+pub mod Lexer
 pub mod Sources
 pub mod Brief

@@ -12,14 +12,14 @@ ghost use Rattle.types_lex.specs.Brief.{StepsBrief, in_full, IsBriefNext};
 ghost use Rattle.types_lex.specs.Lexeme.{starts_name, is_name_byte};
 ghost use Rattle.types_lex.specs.Lexemes.{Reached, GoesOn};
 ghost use Rattle.types_lex.specs.LexText.{Answers};
-ghost use Rattle.types_lex.specs.Scan.{cased_form, word_form, found, string_at, word_of, step_at};
+ghost use Rattle.types_lex.specs.Lexer.{cased_form, word_form, found, string_at, word_of, step_at};
 
-use crate::bytes::{is_separator, name_len, starts_lower, starts_name};
+use crate::character_classes::{is_separator, name_len, starts_lower, starts_name};
 use crate::characters::{char_at, plain_end};
 use crate::found_lexeme::{FoundLexeme, LexStep};
 use crate::lexeme::{LexFault, Lexeme, LexemeKind, LexemeSpan, Symbol};
-use crate::scan::{moved, step_at};
-use crate::words::{copied, keyword_of};
+use crate::lexer::{moved, step_at};
+use crate::name_lexer::{copied, keyword_of};
 use base_data::model::list::List;
 use std::alloc::Global;
 

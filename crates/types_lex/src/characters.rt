@@ -4,13 +4,13 @@ ghost use Rattle.std.specs.Prelude.{◌≡◌, ◌≤◌, ◌+◌, drop, length,
 ghost use Rattle.std.specs.List.{prefix_len};
 ghost use Rattle.types_lex.specs.Lexeme.{named_char, is_plain};
 ghost use Rattle.types_lex.specs.LexText.{Answers};
-ghost use Rattle.types_lex.specs.Scan.{hexadecimal_at, decimal_at, escape_at, char_at, char_found};
-ghost use Rattle.types_lex.specs.Scan.{quote_form, string_at, found_at, TakesPlain};
+ghost use Rattle.types_lex.specs.Lexer.{hexadecimal_at, decimal_at, escape_at, char_at, char_found};
+ghost use Rattle.types_lex.specs.Lexer.{quote_form, string_at, found_at, TakesPlain};
 
-use crate::bytes::{digit_value, plain_len};
+use crate::character_classes::{digit_value, plain_len};
 use crate::found_lexeme::FoundLexeme;
 use crate::lexeme::{LexFault, LexemeKind};
-use crate::words::variable;
+use crate::name_lexer::variable;
 use base_data::model::list::List;
 use std::alloc::{AllocError, Global};
 
@@ -30,7 +30,7 @@ fn named_char(b: u8) -> Option<u8>
 
 /// Decodes two hexadecimal digits that follow a backslash and an `x`. Returns the byte and the
 /// length of the whole escape in bytes.
-#[tactic(auto, unfolding(crate::specs::Scan::hexadecimal_at))]
+#[tactic(auto, unfolding(crate::specs::Lexer::hexadecimal_at))]
 fn hexadecimal_at(text: &[u8]) -> Option<(u8, usize)>
     ensures { result ≡ char_found (hexadecimal_at text.now) }
 {
@@ -46,7 +46,7 @@ fn hexadecimal_at(text: &[u8]) -> Option<(u8, usize)>
 
 /// Decodes three decimal digits that follow a backslash. Returns the byte and the length of the
 /// whole escape in bytes.
-#[tactic(auto, unfolding(crate::specs::Scan::decimal_at))]
+#[tactic(auto, unfolding(crate::specs::Lexer::decimal_at))]
 fn decimal_at(text: &[u8]) -> Option<(u8, usize)>
     ensures { result ≡ char_found (decimal_at text.now) }
 {
@@ -66,7 +66,7 @@ fn decimal_at(text: &[u8]) -> Option<(u8, usize)>
 
 /// Decodes the escape whose backslash precedes the text. Returns the byte and the length of the
 /// whole escape in bytes.
-#[tactic(auto, unfolding(crate::specs::Scan::escape_at))]
+#[tactic(auto, unfolding(crate::specs::Lexer::escape_at))]
 fn escape_at(text: &[u8]) -> Option<(u8, usize)>
     ensures { result ≡ char_found (escape_at text.now) }
 {
@@ -87,7 +87,7 @@ fn escape_at(text: &[u8]) -> Option<(u8, usize)>
 
 /// Decodes the character at the start of the text, inside quotes `quote`. Returns the byte that the
 /// character represents and the character's length in bytes.
-#[tactic(auto, unfolding(crate::specs::Scan::char_at))]
+#[tactic(auto, unfolding(crate::specs::Lexer::char_at))]
 pub(crate) fn char_at(quote: u8, text: &[u8]) -> Option<(u8, usize)>
     ensures { result ≡ char_found (char_at quote text.now) }
 {
@@ -105,7 +105,7 @@ pub(crate) fn char_at(quote: u8, text: &[u8]) -> Option<(u8, usize)>
 
 /// Lexes the character or type variable whose quote precedes the text. A text that may be a
 /// character or a type variable is a character.
-#[tactic(auto, unfolding(crate::specs::Scan::quote_form, crate::specs::Scan::character_form))]
+#[tactic(auto, unfolding(crate::specs::Lexer::quote_form, crate::specs::Lexer::character_form))]
 pub fn quoted(alloc: Global, text: &[u8]) -> Result<FoundLexeme, LexFault>
     ensures { Answers (λ w. w) result (found_at (quote_form text.now)) }
 {

@@ -1,7 +1,7 @@
 //! Finds the end of a comment.
 
 ghost use Rattle.std.specs.Prelude.{◌≡◌, ◌≤◌, length, IfSome};
-ghost use Rattle.types_lex.specs.Scan.{bracket_of, closing};
+ghost use Rattle.types_lex.specs.Lexer.{bracket_of, closing};
 
 /// What two bytes mean in a comment: the beginning of a comment, the end of a comment, or neither.
 #[derive(Clone, Copy)]

@@ -4,11 +4,11 @@ ghost use Rattle.std.specs.Prelude.{◌≡◌, ◌<◌, ◌^◌, Some, length, m
 ghost use Rattle.types_lex.specs.declared.lexeme.Lexeme.{Lexeme};
 ghost use Rattle.types_lex.specs.Lexemes.{lexeme_from, lower_name};
 
-use crate::bytes::{name_len, starts_lower};
+use crate::character_classes::{name_len, starts_lower};
 use crate::found_lexeme::LexStep;
 use crate::lexeme::{Keyword, LexFault, Lexeme, LexemeKind};
-use crate::scan::step_at;
-use crate::words::keyword_of;
+use crate::lexer::step_at;
+use crate::name_lexer::keyword_of;
 use base_data::model::Memory;
 use base_data::model::list::List;
 use std::alloc::Global;

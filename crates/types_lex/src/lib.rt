@@ -19,20 +19,20 @@
 #![tactic(auto)]
 
 mod brief;
-pub mod bytes;
+pub mod character_classes;
 mod characters;
 mod comments;
 mod found_lexeme;
 pub mod lexeme;
 mod lexemes;
+mod lexer;
+mod name_lexer;
 mod next;
 mod numbers;
-mod scan;
 mod symbols;
-mod words;
 
 pub use brief::next_brief;
 pub use found_lexeme::{FoundLexeme, LexStep};
 pub use lexemes::Lexemes;
+pub use lexer::{one_outcome, step_at, tokens};
 pub use next::{next_lexeme, see_lexemes};
-pub use scan::{one_outcome, step_at, tokens};

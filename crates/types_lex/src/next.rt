@@ -6,7 +6,7 @@ ghost use Rattle.types_lex.specs.Lexemes.{Reached, GoesOn, StepsOn, IsNext, Ends
 
 use crate::found_lexeme::LexStep;
 use crate::lexeme::{LexFault, Lexeme, LexemeSpan};
-use crate::scan::{moved, step_at};
+use crate::lexer::{moved, step_at};
 use std::alloc::Global;
 
 /// Returns the first lexeme of a text that begins at position `from` (in bytes) or later. If no

@@ -6,9 +6,9 @@ ghost use Rattle.std.specs.Char.{is_ascii_digit, is_ascii_hexdigit};
 ghost use Rattle.std.specs.List.{prefix_len, list_all};
 ghost use Rattle.types_lex.specs.Lexeme.{number_in, signed, greatest, suffix_text};
 ghost use Rattle.types_lex.specs.LexText.{Answers};
-ghost use Rattle.types_lex.specs.Scan.{suffix_at, number_form, double_form, found_at};
+ghost use Rattle.types_lex.specs.Lexer.{suffix_at, number_form, double_form, found_at};
 
-use crate::bytes::digit_value;
+use crate::character_classes::digit_value;
 use crate::found_lexeme::FoundLexeme;
 use crate::lexeme::{Integer, LexFault, LexemeKind, Suffix};
 
@@ -66,7 +66,7 @@ fn signed(minus: bool, number: u64) -> Option<i64>
 
 /// Returns the suffix of an integer at the start of the text, and the length of the suffix in
 /// bytes.
-#[tactic(auto, unfolding(crate::specs::Scan::suffix_at))]
+#[tactic(auto, unfolding(crate::specs::Lexer::suffix_at))]
 #[inline(always)]
 fn suffix_at(text: &[u8]) -> (Suffix, usize)
     ensures suffix { result.0 ≡ suffix_at text.now }
@@ -82,7 +82,7 @@ fn suffix_at(text: &[u8]) -> (Suffix, usize)
 
 /// Lexes the integer whose digits begin the text. If `minus` is true, then a minus sign precedes
 /// the text.
-#[tactic(auto, unfolding(crate::specs::Scan::number_form))]
+#[tactic(auto, unfolding(crate::specs::Lexer::number_form))]
 #[inline(always)]
 pub fn integer(minus: bool, text: &[u8]) -> Result<FoundLexeme, LexFault>
     ensures { Answers (λ w. w) result (found_at (number_form minus text.now)) }
@@ -108,7 +108,7 @@ pub fn integer(minus: bool, text: &[u8]) -> Result<FoundLexeme, LexFault>
 }
 
 /// Lexes the double whose `$` precedes the text: sixteen hexadecimal digits.
-#[tactic(auto, unfolding(crate::specs::Scan::double_form))]
+#[tactic(auto, unfolding(crate::specs::Lexer::double_form))]
 pub fn double(text: &[u8]) -> Result<FoundLexeme, LexFault>
     ensures { Answers (λ w. w) result (found_at (double_form text.now)) }
 {

@@ -1,14 +1,14 @@
 //! Lexes symbols of one or two bytes.
 
 ghost use Rattle.std.specs.Prelude.{◌≡◌};
-ghost use Rattle.types_lex.specs.Scan.{pair_symbol, single_symbol, pair_at, symbol_form, found_at};
+ghost use Rattle.types_lex.specs.Lexer.{pair_symbol, single_symbol, pair_at, symbol_form, found_at};
 ghost use Rattle.types_lex.specs.LexText.{Answers};
 
 use crate::found_lexeme::FoundLexeme;
 use crate::lexeme::{LexFault, LexemeKind, Symbol};
 
 /// Returns the symbol that two bytes form, or `None` if the bytes form no symbol.
-#[tactic(auto, unfolding(crate::specs::Scan::pair_symbol))]
+#[tactic(auto, unfolding(crate::specs::Lexer::pair_symbol))]
 #[inline(always)]
 fn pair_symbol(first: u8, second: u8) -> Option<Symbol>
     ensures { result ≡ pair_symbol first second }
@@ -27,7 +27,7 @@ fn pair_symbol(first: u8, second: u8) -> Option<Symbol>
 }
 
 /// Returns the symbol that one byte forms, or `None` if the byte forms no symbol.
-#[tactic(auto, unfolding(crate::specs::Scan::single_symbol))]
+#[tactic(auto, unfolding(crate::specs::Lexer::single_symbol))]
 #[inline(always)]
 fn single_symbol(byte: u8) -> Option<Symbol>
     ensures { result ≡ single_symbol byte }
@@ -53,7 +53,7 @@ fn single_symbol(byte: u8) -> Option<Symbol>
 
 /// Returns the symbol that `first` and the first byte of `rest` form. If `rest` is empty, returns
 /// `None`.
-#[tactic(auto, unfolding(crate::specs::Scan::pair_at))]
+#[tactic(auto, unfolding(crate::specs::Lexer::pair_at))]
 #[inline(always)]
 fn pair_at(first: u8, rest: &[u8]) -> Option<Symbol>
     ensures { result ≡ pair_at first rest.now }
@@ -65,7 +65,7 @@ fn pair_at(first: u8, rest: &[u8]) -> Option<Symbol>
 }
 
 /// Lexes the symbol that begins with the byte `first`. A symbol of two bytes is preferred.
-#[tactic(auto, unfolding(crate::specs::Scan::symbol_form))]
+#[tactic(auto, unfolding(crate::specs::Lexer::symbol_form))]
 #[inline(always)]
 pub fn symbol(first: u8, rest: &[u8]) -> Result<FoundLexeme, LexFault>
     ensures { Answers (λ w. w) result (found_at (symbol_form first rest.now)) }

@@ -1,5 +1,5 @@
 pub mod MachineLemmas
-pub mod TableLemmas
+pub mod TypeGrammarTableLemmas
 pub mod Stands
 pub mod HolesPrefixes
 pub mod HolesLead
@@ -11,5 +11,5 @@ pub mod FileStand
 pub mod FileTable
 pub mod LawLemmas
 pub mod LexemeLemmas
-pub mod Examples
-pub mod ReachedLemmas
+pub mod GrammarExamples
+pub mod TypeGrammarReachedLemmas

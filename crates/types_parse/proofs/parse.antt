@@ -1,9 +1,9 @@
-pub mod NodeLemmas
-pub mod TypeLemmas
-pub mod WholeLemmas
+pub mod ParserNodeLemmas
+pub mod ParserTypeLemmas
+pub mod ParserWholeLemmas
 pub mod TypeReading
 pub mod WrittenLemmas
-pub mod FileLemmas
+pub mod ParserFileLemmas
 pub mod FileEnd
-pub mod StepLemmas
+pub mod ParserStepLemmas
 pub mod FileReading

@@ -1,8 +1,8 @@
 pub mod Grammar
 pub mod Depths
-pub mod Lexemes
+pub mod LexemeKinds
 pub mod Refusals
-pub mod Machine
+pub mod TypeMachine
 pub mod Holes
 pub mod Alone
 pub mod File

@@ -1,5 +1,5 @@
-pub mod Written
-pub mod Popped
+pub mod WrittenTrees
+pub mod PoppedConstruct
 pub mod TypeCode
 pub mod TypeShown
 pub mod Parsed

@@ -4,20 +4,20 @@
 //! `AreDeclarationsOf`). If parsing fails, the fault is the first error (`IsFault`), unless memory
 //! ran out. The lexer is in `types_lex`.
 
+mod declarations_so_far;
 mod file_end;
+mod file_parser;
 mod file_step;
-mod files;
 mod in_file;
-mod known;
-mod numbers;
+mod lexeme_number;
 mod open;
+mod open_depth;
 mod parse_stack;
 mod refused;
-mod so_far;
+mod type_parser;
 mod type_step;
-mod types;
 
-pub use files::parse_file;
-pub use numbers::number_of;
+pub use file_parser::parse_file;
+pub use lexeme_number::number_of;
 pub use refused::{ParseFault, byte_of};
-pub use types::parse_type;
+pub use type_parser::parse_type;

@@ -1,7 +1,7 @@
 pub mod Adds
 pub mod Bodies
 pub mod Facts
-pub mod Found
+pub mod FoundOccurrences
 pub mod BracketItems
 pub mod Walk
 pub mod InText

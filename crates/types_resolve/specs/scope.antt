@@ -1,11 +1,11 @@
-pub mod Brackets
+pub mod TypeBrackets
 pub mod Breaks
 pub mod Cyclic
 pub mod First
-pub mod Graph
+pub mod StepGraph
 pub mod Least
-pub mod Names
+pub mod NamePositions
 pub mod Ranks
-pub mod Search
+pub mod CycleSearch
 pub mod Sites
-pub mod Steps
+pub mod AbbreviationSteps

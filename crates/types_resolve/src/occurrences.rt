@@ -6,19 +6,19 @@
 
 mod bodies;
 mod fact;
-mod files;
-mod found;
+mod file_occurrences;
+mod found_occurrences;
 mod items;
 pub mod laws;
 mod mark;
 mod marked;
 mod own;
 mod row;
-mod texts;
-mod types;
+mod text_occurrences;
+mod type_occurrences;
 mod walk;
 
-pub use files::{FileSites, file_sites};
+pub use file_occurrences::{FileSites, file_sites};
 pub use marked::marks;
-pub use texts::{file_text_sites, type_text_site};
-pub use types::{TypeFound, type_site};
+pub use text_occurrences::{file_text_sites, type_text_site};
+pub use type_occurrences::{TypeFound, type_site};

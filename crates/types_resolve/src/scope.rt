@@ -2,30 +2,30 @@
 //! functions `first_break` and `first_break_in_type` return the first broken rule and the least
 //! lexeme that breaks the rule. An environment finds the declaration of a name.
 
-mod brackets;
+mod abbreviation_steps;
+mod cycle_search;
 mod cyclic;
+mod declared_names;
 mod environment;
-mod first;
+mod first_name_rule;
 mod graph;
 mod least;
 mod name_table;
-mod names;
+mod name_uses;
 mod ranks;
 mod rule;
-mod search;
 mod seconds;
 mod site;
 mod sites;
-mod sound;
-mod steps;
-mod uses;
+mod sound_environment;
+mod type_brackets;
 mod variables;
 
-pub use brackets::{BracketItem, TypeBrackets};
 pub use environment::Environment;
-pub use first::{Broken, first_break, first_break_in_type};
+pub use first_name_rule::{Broken, first_break, first_break_in_type};
 pub use least::{earliest, position_if};
 pub use rule::NameRule;
 pub use site::{LocatedName, Site, TypeSite, TypeUse};
 pub use sites::{least_break, least_break_in_type};
-pub use sound::SoundEnvironment;
+pub use sound_environment::SoundEnvironment;
+pub use type_brackets::{BracketItem, TypeBrackets};

@@ -1,10 +1,10 @@
-mod Examples
+mod TypeExamples
 mod ScopeExamples
-pub mod AskedLemmas
-pub mod FaultLemmas
-pub mod SumLemmas
+pub mod TypeAskedLemmas
+pub mod TypeFaultLemmas
+pub mod TypeSumLemmas
 pub mod SumTypes
-pub mod WildcardLemmas
-pub mod ListLemmas
-pub mod NodeLemmas
-pub mod ShapeLemmas
+pub mod TypeWildcardLemmas
+pub mod TypeListLemmas
+pub mod TypeNodeLemmas
+pub mod TypeShapeLemmas

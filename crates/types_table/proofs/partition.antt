@@ -1,9 +1,9 @@
 pub mod FormLemmas
-pub mod SetLemmas
+pub mod PartitionSetLemmas
 pub mod SignatureLemmas
 pub mod Loops
-pub mod ListLemmas
-pub mod LoopLemmas
+pub mod PartitionListLemmas
+pub mod PartitionLoopLemmas
 pub mod InspectLemmas
-pub mod TurnLemmas
-pub mod EndLemmas
+pub mod PartitionTurnLemmas
+pub mod PartitionEndLemmas

@@ -1,5 +1,5 @@
-pub mod HeldLemmas
-pub mod InstanceLemmas
+pub mod StoreHeldLemmas
+pub mod StoreInstanceLemmas
 pub mod StoreLemmas
 pub mod DistinctLemmas
-pub mod TreeLemmas
+pub mod StoreTreeLemmas

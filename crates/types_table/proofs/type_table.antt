@@ -1,3 +1,3 @@
-pub mod MadeLemmas
-pub mod TextLemmas
-pub mod WriteLemmas
+pub mod TypeTableMadeLemmas
+pub mod TypeTableTextLemmas
+pub mod TypeTableWriteLemmas

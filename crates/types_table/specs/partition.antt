@@ -4,4 +4,4 @@ pub mod Lists
 pub mod Users
 pub mod Refinement
 pub mod Start
-pub mod Found
+pub mod FoundClasses

@@ -1,5 +1,5 @@
 pub mod Held
 pub mod Instance
-pub mod Borrowed
-pub mod Texts
+pub mod BorrowedNode
+pub mod StoredTexts
 pub mod View

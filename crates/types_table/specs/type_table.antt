@@ -1,3 +1,3 @@
 pub mod Made
 pub mod Laws
-pub mod Texts
+pub mod PrintedTypes

@@ -4,7 +4,7 @@
 //! - `type_table`: The table of the types that a type reaches (`TypeTable`): for each number a
 //!   shape over numbers, a class of equal types, names and a text.
 //! - `partition`: Computes the classes of equal types by partition refinement (`classes`).
-//! - `fits`: Tests whether integers, atoms and arrays of doubles match a shape (`fits_int`).
+//! - `leaf_fits`: Tests whether integers, atoms and arrays of doubles match a shape (`fits_int`).
 //!
 //! Promises:
 //!
@@ -23,7 +23,7 @@
 //! position.
 #![tactic(auto)]
 
-pub mod fits;
+pub mod leaf_fits;
 pub mod partition;
 pub mod store;
 pub mod type_table;

@@ -4,8 +4,8 @@
 //! themselves.
 
 mod all_classes;
+mod class_inspection;
 mod head_form;
-mod inspect;
 mod lists;
 mod moves;
 mod refinement;

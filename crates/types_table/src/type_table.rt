@@ -4,10 +4,10 @@
 //! declarations.
 
 pub mod laws;
-mod table;
+mod table_invariant;
 mod tabled;
-mod text;
+mod type_printer;
 mod waiting;
 
-pub use table::TypeTable;
+pub use table_invariant::TypeTable;
 pub use tabled::Tabled;

@@ -1,3 +1,3 @@
-pub mod FieldLemmas
-pub mod DecideLemmas
-pub mod FewLemmas
+pub mod TableFieldLemmas
+pub mod TableDecideLemmas
+pub mod TableFewLemmas

@@ -6,8 +6,8 @@ pub mod EqualInstances
 pub mod PositionInstances
 pub mod ForthLemmas
 pub mod ClosedTypes
-pub mod ApartLemmas
-pub mod BackLemmas
+pub mod VariableApartLemmas
+pub mod VariableBackLemmas
 pub mod EqualDecided
 pub mod TableExists
-pub mod StandLemmas
+pub mod VariableStandLemmas

@@ -1,10 +1,10 @@
 pub mod Choices
-pub mod NeedLemmas
-pub mod PathLemmas
-pub mod ValueLemmas
+pub mod TypingNeedLemmas
+pub mod TypingPathLemmas
+pub mod TypingValueLemmas
 pub mod Decision
 pub mod SearchedLemmas
-pub mod LeastLemmas
-pub mod WayLemmas
-pub mod StepLemmas
-pub mod OnceLemmas
+pub mod TypingLeastLemmas
+pub mod TypingWayLemmas
+pub mod TypingStepLemmas
+pub mod TypingOnceLemmas

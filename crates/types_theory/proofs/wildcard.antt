@@ -1,3 +1,3 @@
-pub mod WeakerLemmas
-pub mod HeadLemmas
-pub mod ShapeLemmas
+pub mod WildcardWeakerLemmas
+pub mod WildcardHeadLemmas
+pub mod WildcardShapeLemmas

@@ -1,5 +1,5 @@
 pub mod Decidable
-pub mod Complete
+pub mod CompleteFaults
 pub mod SearchLaws
 pub mod LeastWay
 pub mod StepLaws

@@ -4,5 +4,5 @@
 
 pub mod classes;
 pub mod equal;
-pub mod sound;
-pub mod table;
+pub mod sound_types;
+pub mod table_types;

@@ -1,4 +1,4 @@
-pub mod RankLemmas
-pub mod NameLemmas
-pub mod BracketLemmas
+pub mod AcceptedRankLemmas
+pub mod AcceptedNameLemmas
+pub mod AcceptedBracketLemmas
 pub mod AcceptedLemmas

@@ -1,4 +1,4 @@
 pub mod BracketLemmas
 pub mod SightingLemmas
-pub mod TableLemmas
-pub mod TreeLemmas
+pub mod BracketTableLemmas
+pub mod BracketTreeLemmas

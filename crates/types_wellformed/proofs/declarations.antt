@@ -1,8 +1,8 @@
 pub mod AnswerLaws
-pub mod HeadLemmas
-pub mod ReadLemmas
-pub mod TypeLemmas
+pub mod DeclarationHeadLemmas
+pub mod DeclarationReadLemmas
+pub mod DeclarationTypeLemmas
 pub mod OutsideLemmas
 pub mod DepthLemmas
-pub mod FileLemmas
-pub mod SoundLemmas
+pub mod DeclarationFileLemmas
+pub mod DeclarationSoundLemmas

@@ -1,10 +1,10 @@
-pub mod NumberedLemmas
-pub mod FirstLemmas
-pub mod LoopLemmas
+pub mod HeadRuleNumberedLemmas
+pub mod HeadRuleFirstLemmas
+pub mod HeadRuleLoopLemmas
 pub mod VariantLemmas
-pub mod TagLemmas
+pub mod HeadRuleTagLemmas
 pub mod JoinedLemmas
 pub mod ThroughLemmas
-pub mod FlatLemmas
-pub mod TextLemmas
-pub mod ApartLemmas
+pub mod HeadRuleFlatLemmas
+pub mod HeadRuleTextLemmas
+pub mod HeadRuleApartLemmas

@@ -1,5 +1,5 @@
 pub mod Ranked
-pub mod Known
-pub mod Names
-pub mod Brackets
+pub mod KnownThings
+pub mod AcceptedNames
+pub mod AcceptedBrackets
 pub mod Accepted

@@ -1,5 +1,5 @@
 pub mod Collisions
-pub mod Items
+pub mod TagItems
 pub mod Sightings
-pub mod Tables
+pub mod TagTables
 pub mod Trees

@@ -1,6 +1,6 @@
-pub mod Answer
-pub mod Fault
+pub mod DeclarationAnswer
+pub mod DeclarationFault
 pub mod Named
 pub mod Read
-pub mod Text
-pub mod Known
+pub mod DeclarationFaultText
+pub mod WellFormedLaws

@@ -1,5 +1,5 @@
 pub mod Broken
-pub mod Numbered
+pub mod NumberedTypes
 pub mod Ordered
 pub mod Rules
 pub mod Apart

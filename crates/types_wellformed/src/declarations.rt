@@ -4,15 +4,15 @@
 //! unique. `fault_text` prints faults.
 
 mod accept;
-mod fault;
-mod heads;
-pub mod known;
+mod declaration_fault;
+mod declaration_fault_text;
 pub mod laws;
-mod names;
-mod read;
-mod text;
+mod named_declarations;
+mod text_head_rules;
+mod text_name_rules;
+pub mod well_formed_laws;
 
 pub use accept::{read_decls, read_type};
-pub use fault::DeclFault;
-pub use read::{Named, NamedType, read_names, read_type_names};
-pub use text::{fault_text, lexer_text, syntax_text};
+pub use declaration_fault::DeclFault;
+pub use declaration_fault_text::{fault_text, lexer_text, syntax_text};
+pub use named_declarations::{Named, NamedType, read_names, read_type_names};

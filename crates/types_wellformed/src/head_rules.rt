@@ -4,15 +4,15 @@
 //! violation in the text of a type. `types_resolve` checks the scope rules on names.
 
 mod apart;
-mod brackets;
+mod bracket_numbers;
 mod broken;
-mod conflict;
-mod first;
-mod flat;
+mod first_head_rule;
+mod flat_records;
 mod head_nodes;
 mod item;
+mod tag_conflicts;
 mod tags;
 mod variant;
 
 pub use broken::HeadBreak;
-pub use first::{first_head_break, first_head_break_in_type};
+pub use first_head_rule::{first_head_break, first_head_break_in_type};

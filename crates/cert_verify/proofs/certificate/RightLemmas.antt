@@ -11,16 +11,16 @@ use Rattle.base_data.specs.declared.model.value.Val.{Val}
 use Rattle.base_data.specs.declared.model.value.Val.TheVariants as vals
 use Rattle.base_data.specs.declared.model.value.Obj.{Obj}
 use Rattle.marshal_heap.specs.heap.Heap.{word_of}
-use Rattle.marshal_heap.proofs.heap.ReadLemmas.{word_of-inj}
+use Rattle.marshal_heap.proofs.heap.HeapReadLemmas.{word_of-inj}
 use Rattle.types_spec.specs.declared.types.shape.ShapeOf.{ShapeOf}
 use Rattle.types_spec.specs.types.Fitting.{is_mutable}
-use Rattle.types_spec.specs.types.Lawful.{AreLawful, Everything}
+use Rattle.types_spec.specs.types.LawfulShapes.{AreLawful, Everything}
 use Rattle.types_spec.specs.types.Table.{Table, table_shapes, node_or_none, is_asked_in}
 use Rattle.cert_verify.specs.declared.certificate.right.Worded.{Worded}
 use Rattle.cert_verify.specs.certificate.Verified.{IsThere}
 use Rattle.cert_verify.specs.certificate.Testing.{StandsAt, AreAllThere, AreRight, IsRight, IsRightAt}
 use Rattle.cert_verify.specs.certificate.Right.{AllFit, IsBacked, IsWorded, IsRightWithAll, AreRightWithAll}
-use Rattle.cert_verify.proofs.certificate.HeldLemmas.{no_object_held, stands_held, stands_at}
+use Rattle.cert_verify.proofs.certificate.EntryHeldLemmas.{no_object_held, stands_held, stands_at}
 
 module _ (table : Table) (graph : List Obj) (pairs : List (ℕ × ℕ)) where
   -- ---- one value

@@ -14,18 +14,18 @@ use Rattle.types_spec.specs.types.Fitting.{object_fields, fields_of}
 use Rattle.types_spec.specs.types.Table.{Table, table_shapes, node_or_none}
 use Rattle.types_spec.specs.types.Fault.{IsBefore}
 use Rattle.types_spec.specs.declared.types.fault.Fault.TheVariants as faults
-use Rattle.types_spec.specs.types.Lawful.{AreLawful, Everything}
-use Rattle.types_spec.proofs.types.FaultLemmas.{fault_excludes_type}
-use Rattle.types_theory.proofs.typing.PathLemmas.{OneOfThree, paths_compare}
+use Rattle.types_spec.specs.types.LawfulShapes.{AreLawful, Everything}
+use Rattle.types_spec.proofs.types.TypeFaultLemmas.{fault_excludes_type}
+use Rattle.types_theory.proofs.typing.TypingPathLemmas.{OneOfThree, paths_compare}
 use Rattle.cert_format.specs.declared.section.Section.{Section}
 use Rattle.cert_format.specs.declared.section.Section.TheVariants as sections
 use Rattle.cert_verify.specs.declared.certificate.verified.Why.{Why}
 use Rattle.cert_verify.specs.declared.certificate.verified.Why.TheVariants.{Range, Unfit, Need, TwoTypes, Root, NotFault}
 use Rattle.cert_verify.specs.declared.certificate.verified.Verified.{Verified}
 use Rattle.cert_verify.specs.declared.certificate.verified.Verified.TheVariants.{Rejected}
-use Rattle.cert_verify.specs.certificate.Accepted.{AreAccepted, IsAccepted}
+use Rattle.cert_verify.specs.certificate.AcceptedEntry.{AreAccepted, IsAccepted}
 use Rattle.cert_verify.specs.certificate.Verified.{IsThere, LacksNeed, IsAtTwoTypes, IsWrong, IsWhy, position_of, IsFirstWhy, IsVerified, Shows, IsOneAnswer}
-use Rattle.cert_verify.proofs.certificate.AcceptedLemmas.{accepted_has_type}
+use Rattle.cert_verify.proofs.certificate.EntryAcceptedLemmas.{accepted_has_type}
 
 -- ---- what fits exists
 

@@ -4,14 +4,14 @@ use Rattle.base_data.specs.declared.model.value.Val.{Val}
 use Rattle.base_data.specs.declared.model.value.Val.TheVariants as vals
 use Rattle.base_data.specs.declared.model.value.Obj.{Obj}
 use Rattle.types_spec.specs.declared.types.fault.Fault.{Fault}
-use Rattle.types_spec.specs.types.Lawful.{AreLawful, Everything}
+use Rattle.types_spec.specs.types.LawfulShapes.{AreLawful, Everything}
 use Rattle.types_spec.specs.types.Fault.{IsFault, value_at}
 use Rattle.types_spec.specs.types.Table.{Table, table_shapes}
 use Rattle.types_spec.specs.types.Typing.{IsListed, HasType}
 use Rattle.cert_format.specs.declared.section.Section.{Section}
 use Rattle.cert_verify.specs.declared.certificate.verified.Why.{Why}
 use Rattle.cert_verify.specs.declared.certificate.verified.Verified.{Verified}
-use Rattle.cert_verify.specs.certificate.Accepted.{AreAccepted, IsAccepted}
+use Rattle.cert_verify.specs.certificate.AcceptedEntry.{AreAccepted, IsAccepted}
 use Rattle.cert_verify.specs.certificate.Normal.{AreNormal, AreTheSame, AreReached}
 use Rattle.cert_verify.specs.certificate.Verified.{IsWhy, IsVerified}
 

@@ -17,7 +17,7 @@ use Rattle.cert_verify.specs.declared.certificate.verified.Why.TheVariants.{TwoT
 use Rattle.cert_verify.specs.declared.certificate.verified.Why.TheVariants.{NotFault}
 use Rattle.cert_verify.specs.declared.certificate.verified.Verified.{Verified}
 use Rattle.cert_verify.specs.declared.certificate.verified.Verified.TheVariants.{Yes, No, Rejected}
-use Rattle.cert_verify.specs.certificate.Accepted.{IsAccepted}
+use Rattle.cert_verify.specs.certificate.AcceptedEntry.{IsAccepted}
 
 -- ---- reasons
 

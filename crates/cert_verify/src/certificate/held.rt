@@ -9,7 +9,7 @@ ghost use Rattle.types_spec.specs.types.Table.{table_shapes};
 ghost use Rattle.types_spec.specs.types.Typing.{IsHeld};
 ghost use Rattle.types_table.specs.type_table.Made.{table_of};
 ghost use Rattle.marshal_heap.specs.heap.Heap.{word_of, IsFieldWord};
-ghost use Rattle.check_heap.specs.scan.Fitting.{table_in};
+ghost use Rattle.check_heap.specs.scan.TypeRows.{table_in};
 ghost use Rattle.cert_verify.specs.certificate.Testing.{IsStart, IsPassing, IsSame, IsFrequent};
 ghost use Rattle.cert_verify.specs.certificate.Testing.{IsAmongAt, IsSettled};
 ghost use Rattle.cert_verify.specs.certificate.Testing.{IsElsewhere};

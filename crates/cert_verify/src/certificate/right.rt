@@ -11,8 +11,8 @@ ghost use Rattle.types_spec.specs.types.Fitting.{is_mutable_block};
 ghost use Rattle.types_spec.specs.types.Table.{table_shapes, typed_fields, is_asked_in};
 ghost use Rattle.types_table.specs.type_table.Made.{table_of};
 ghost use Rattle.check_heap.specs.fits.Needs.{needs_in};
-ghost use Rattle.check_heap.specs.scan.Fitting.{table_in};
-ghost use Rattle.cert_verify.specs.certificate.Accepted.{AreAccepted};
+ghost use Rattle.check_heap.specs.scan.TypeRows.{table_in};
+ghost use Rattle.cert_verify.specs.certificate.AcceptedEntry.{AreAccepted};
 ghost use Rattle.cert_verify.specs.certificate.Testing.{IsElsewhere, StandsAt, HoldsAll, AreRight};
 ghost use Rattle.cert_verify.specs.certificate.Right.{AllFit, IsBacked, IsWorded, IsRightWithAll};
 

@@ -1,6 +1,6 @@
 //! The pairs of a certificate entry, with the heap and the table to which they refer.
 
-ghost use Rattle.check_heap.specs.scan.Fitting.{table_in};
+ghost use Rattle.check_heap.specs.scan.TypeRows.{table_in};
 ghost use Rattle.cert_verify.specs.certificate.Testing.{AreAllThere};
 
 use cert_format::CertificatePairs;

@@ -5,7 +5,7 @@ ghost use Rattle.base_data.specs.declared.model.value.Val.TheVariants as vals;
 ghost use Rattle.types_spec.specs.types.Table.{typed_fields};
 ghost use Rattle.marshal_heap.specs.heap.Heap.{word_of};
 ghost use Rattle.check_heap.specs.fits.Needs.{needs_in};
-ghost use Rattle.check_heap.specs.scan.Fitting.{table_in};
+ghost use Rattle.check_heap.specs.scan.TypeRows.{table_in};
 ghost use Rattle.cert_verify.specs.certificate.Testing.{IsFrequent, HoldsAll, IsFirstMissing};
 ghost use Rattle.cert_verify.specs.certificate.Testing.{IsRightAt, AreRight};
 ghost use Rattle.cert_verify.specs.certificate.Testing.{IsFirstAt};

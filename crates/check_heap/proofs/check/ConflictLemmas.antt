@@ -11,7 +11,7 @@ use Rattle.check_heap.specs.declared.check.visits.Visit.{Visit}
 use Rattle.check_heap.specs.declared.check.visits.Visits.{Visits}
 use Rattle.check_heap.specs.check.Visits.{listed, AreLinked, IsFirstAt}
 use Rattle.check_heap.specs.scan.Classed.{Has, IsUntouched}
-use Rattle.check_heap.proofs.scan.PositionLemmas.{read_at}
+use Rattle.check_heap.proofs.scan.ScanPositionLemmas.{read_at}
 use Rattle.check_heap.proofs.scan.ClassedLemmas.{untouched_none}
 use Rattle.check_heap.specs.check.Conflict.{IsWithin, mutable_at, AreApart, ConflictAt, NoneConflict, ConflictsBack, IsFirstOf, IsFirstConflict}
 

@@ -10,15 +10,15 @@ use Rattle.base_data.proofs.model.Lists.{slice_get-append_left}
 use Rattle.base_data.proofs.model.Numbers.{less_same_more}
 use Rattle.types_spec.specs.declared.types.shape.ShapeOf.{ShapeOf}
 use Rattle.types_spec.specs.types.Fault.{IsBefore, field_of, type_of_field, step, value_at}
-use Rattle.types_spec.specs.types.Searched.{Entry, IsEntered}
+use Rattle.types_spec.specs.types.SearchedPaths.{Entry, IsEntered}
 use Rattle.types_spec.specs.types.Table.{Table, table_shapes, node_or_none, is_asked_in}
-use Rattle.types_theory.proofs.typing.PathLemmas.{OneOfThree, value_at-push}
+use Rattle.types_theory.proofs.typing.TypingPathLemmas.{OneOfThree, value_at-push}
 use Rattle.types_theory.proofs.typing.SearchedLemmas.{before_transitive, never_before_itself}
 use Rattle.check_heap.specs.check.Explored.{ComesBefore, entry_fields, IsMetNeed, IsLedTo, AreExplored}
-use Rattle.check_heap.proofs.check.OrderLemmas.{both_pushed, pushed_less, root_before}
-use Rattle.check_heap.proofs.scan.PathLemmas.{need_is_named}
+use Rattle.check_heap.proofs.check.CheckOrderLemmas.{both_pushed, pushed_less, root_before}
+use Rattle.check_heap.proofs.scan.ScanPathLemmas.{need_is_named}
 use Rattle.check_heap.proofs.scan.IncreaseLemmas.{needs_increase}
-use Rattle.check_heap.proofs.scan.PositionLemmas.{slice_get-push_cases}
+use Rattle.check_heap.proofs.scan.ScanPositionLemmas.{slice_get-push_cases}
 
 -- ---- the order of fields
 

@@ -16,7 +16,7 @@ use Rattle.check_heap.specs.check.Verdict.{IsYes}
 use Rattle.check_heap.proofs.scan.IncreaseLemmas.{numbered}
 use Rattle.std.proofs.lemmas.List.{length-append}
 use Rattle.base_data.proofs.model.Lists.{slice_get-append_left, slice_get-append_right}
-use Rattle.check_heap.proofs.scan.PositionLemmas.{mapped_at}
+use Rattle.check_heap.proofs.scan.ScanPositionLemmas.{mapped_at}
 
 -- The pair with number `s + k` is at index `k`.
 pub numbered_there : (s : ℕ) (ts : List ℕ) (k n : ℕ) → n ≡ s + k → k < length ts → slice_get (numbered_from s ts) k ≡ Some (n, slice_index ts k)

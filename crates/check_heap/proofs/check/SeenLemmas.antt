@@ -10,9 +10,9 @@ use Rattle.types_spec.specs.types.Table.{Table, table_shapes}
 use Rattle.marshal_heap.specs.heap.Heap.{field_at, word_of}
 use Rattle.types_table.specs.type_table.Made.{IsLawful}
 use Rattle.check_heap.specs.declared.scan.taken_objects.TakenObjects.{TakenObjects}
-use Rattle.check_heap.specs.scan.Taken.{types_in, all_fields, seen_of, is_unfit_field, rest_of}
+use Rattle.check_heap.specs.scan.TakenObjects.{types_in, all_fields, seen_of, is_unfit_field, rest_of}
 use Rattle.check_heap.specs.scan.Scanned.{IsSeen, IsSeenObject, AreTaken}
-use Rattle.check_heap.proofs.scan.PositionLemmas.{read_at}
+use Rattle.check_heap.proofs.scan.ScanPositionLemmas.{read_at}
 use Rattle.check_heap.specs.declared.check.visits.Visit.{Visit}
 use Rattle.check_heap.specs.check.Search.{AreSeen, is_taken}
 use Rattle.check_heap.proofs.check.SpentLemmas.{taken_at}

@@ -9,7 +9,7 @@ use Rattle.base_data.proofs.model.Options.{map-Contains, Contains-map, Contains-
 use Rattle.base_data.specs.declared.model.value.Obj.{Obj}
 use Rattle.base_data.proofs.model.Lists.{Contains-position}
 use Rattle.types_spec.specs.types.Fitting.{numbered_from}
-use Rattle.types_spec.specs.types.Steps.{most_steps}
+use Rattle.types_spec.specs.types.StepBounds.{most_steps}
 use Rattle.types_spec.specs.types.Table.{Table}
 use Rattle.types_table.specs.type_table.Made.{IsLawful}
 use Rattle.types_theory.specs.typing.StepLaws.{AreApart, key_of, AreEntries}
@@ -18,12 +18,12 @@ use Rattle.check_heap.specs.check.Explored.{IsExplored}
 use Rattle.check_heap.specs.check.Search.{is_of_class, is_taken, counted, spent, pairs_of}
 use Rattle.check_heap.specs.scan.Scanned as scans
 use Rattle.check_heap.specs.declared.scan.taken_objects.TakenObjects.{TakenObjects}
-use Rattle.check_heap.specs.scan.Taken.{types_in, all_fields, seen_of, size_of, rest_of}
+use Rattle.check_heap.specs.scan.TakenObjects.{types_in, all_fields, seen_of, size_of, rest_of}
 use Rattle.check_heap.specs.scan.Scanned.{AreTaken, left_of}
-use Rattle.check_heap.proofs.scan.PositionLemmas.{read_at, mapped_at}
+use Rattle.check_heap.proofs.scan.ScanPositionLemmas.{read_at, mapped_at}
 use Rattle.check_heap.proofs.scan.ScanLemmas.{pair_at, types_entries}
-use Rattle.check_heap.proofs.scan.SizeLemmas.{sizes_are_few}
-use Rattle.check_heap.proofs.check.VisitLemmas.{visit_within, visits_apart}
+use Rattle.check_heap.proofs.scan.ScanSizeLemmas.{sizes_are_few}
+use Rattle.check_heap.proofs.check.CheckVisitLemmas.{visit_within, visits_apart}
 
 -- ---- lists with distinct elements
 

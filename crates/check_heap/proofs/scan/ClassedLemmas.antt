@@ -9,8 +9,8 @@ use Rattle.std.proofs.lemmas.Option.{same_Some, none-some, slice_get_within}
 use Rattle.base_data.proofs.model.Options.{same_or_not}
 use Rattle.check_heap.specs.declared.scan.classed.Classed.{Classed}
 use Rattle.check_heap.specs.scan.Classed.{pair_cmp, IsInCell, Has, IsUntouched, Agree, Inserts}
-use Rattle.check_heap.proofs.scan.PositionLemmas.{slice_set_here, slice_set_other, slice_set_at}
-use Rattle.check_heap.proofs.scan.SetLemmas.{later_before, later_kept, less_before, less_kept}
+use Rattle.check_heap.proofs.scan.ScanPositionLemmas.{slice_set_here, slice_set_other, slice_set_at}
+use Rattle.check_heap.proofs.scan.ScanSetLemmas.{later_before, later_kept, less_before, less_kept}
 
 pub untouched_none : (classed : Classed) → IsUntouched classed → (o c : ℕ) → ¬ Has classed o c
 untouched_none classed untouched o c has = ⊎_elim

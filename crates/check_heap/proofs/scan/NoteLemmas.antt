@@ -16,11 +16,11 @@ use Rattle.check_heap.specs.scan.Paths.{IsWildcard}
 use Rattle.check_heap.specs.scan.Classed.{IsUntouched}
 use Rattle.check_heap.specs.scan.Seconds.{noted_in}
 use Rattle.check_heap.specs.scan.Scan.{mark_of, AreMarks, AreKept, AreNoted, IsFirstOf, IsKnownIn, IsWhole, IsScanning, Stops, IsStoppedAt, AreNotes, IsGoing}
-use Rattle.check_heap.proofs.scan.PositionLemmas.{slice_set_at, slice_set_other}
-use Rattle.check_heap.proofs.scan.MarkLemmas.{unmet_kept, marks_more, kept_more, noted_kept, meeting_first}
+use Rattle.check_heap.proofs.scan.ScanPositionLemmas.{slice_set_at, slice_set_other}
+use Rattle.check_heap.proofs.scan.ScanMarkLemmas.{unmet_kept, marks_more, kept_more, noted_kept, meeting_first}
 use Rattle.check_heap.proofs.scan.ScanLemmas.{scanning_kept, scanning_more}
-use Rattle.check_heap.proofs.scan.PathLemmas.{wildcard_typed, wildcard_fits}
-use Rattle.check_heap.proofs.scan.SecondLemmas.{seconds_none, nothing_in}
+use Rattle.check_heap.proofs.scan.ScanPathLemmas.{wildcard_typed, wildcard_fits}
+use Rattle.check_heap.proofs.scan.ScanSecondLemmas.{seconds_none, nothing_in}
 
 module _ (table : Table) (graph : List Obj) where
   -- If nothing is noted yet, then the notes are correct.

@@ -11,7 +11,7 @@ use Rattle.base_data.specs.declared.model.value.Val.TheVariants as vals
 use Rattle.base_data.specs.declared.model.value.Obj.{Obj}
 use Rattle.base_data.proofs.model.Lists.{Contains-position}
 use Rattle.types_spec.specs.types.Fitting.{numbered_from}
-use Rattle.types_spec.specs.types.Steps.{most_steps}
+use Rattle.types_spec.specs.types.StepBounds.{most_steps}
 use Rattle.types_spec.specs.types.Table.{Table, table_shapes}
 use Rattle.types_spec.specs.types.Typing.{IsHeld, IsTyping}
 use Rattle.types_theory.specs.typing.StepLaws.{key_of, AreEntries}
@@ -20,18 +20,18 @@ use Rattle.marshal_heap.specs.heap.Heap.{field_at}
 use Rattle.types_table.specs.type_table.Made.{IsLawful}
 use Rattle.check_heap.specs.declared.scan.straight.Scanned.TheVariants as answers
 use Rattle.check_heap.specs.scan.Paths.{HasPath, IsLed, HavePaths}
-use Rattle.check_heap.specs.scan.Taken.{size_of}
+use Rattle.check_heap.specs.scan.TakenObjects.{size_of}
 use Rattle.check_heap.specs.declared.scan.second_types.SecondTypes.{SecondTypes}
 use Rattle.check_heap.specs.scan.Seconds.{noted_in}
-use Rattle.types_spec.proofs.types.AskedLemmas.{need_typed}
+use Rattle.types_spec.proofs.types.TypeAskedLemmas.{need_typed}
 use Rattle.check_heap.specs.scan.Scanned.{object_typed, IsScanned, IsFoundIn, IsScannedBut, cost_of}
 use Rattle.check_heap.specs.scan.Scan.{mark_of, AreMarks, AreKept, AreNoted, AreStillNoted, IsMet, IsNoted, AreMet, IsTaken, IsScanning}
-use Rattle.check_heap.proofs.scan.PositionLemmas.{slice_get-push_cases, contains_left, contains_right}
-use Rattle.check_heap.proofs.scan.FieldLemmas.{field_there, field_valid}
-use Rattle.check_heap.proofs.scan.NeedLemmas.{need_field, needs_few}
-use Rattle.check_heap.proofs.scan.MarkLemmas.{marks_none, marks_more, taken_kept, never_noted}
-use Rattle.check_heap.proofs.scan.PathLemmas.{same_from_key, root_path}
-use Rattle.check_heap.proofs.scan.SizeLemmas.{sizes_are_few}
+use Rattle.check_heap.proofs.scan.ScanPositionLemmas.{slice_get-push_cases, contains_left, contains_right}
+use Rattle.check_heap.proofs.scan.ScanFieldLemmas.{field_there, field_valid}
+use Rattle.check_heap.proofs.scan.ScanNeedLemmas.{need_field, needs_few}
+use Rattle.check_heap.proofs.scan.ScanMarkLemmas.{marks_none, marks_more, taken_kept, never_noted}
+use Rattle.check_heap.proofs.scan.ScanPathLemmas.{same_from_key, root_path}
+use Rattle.check_heap.proofs.scan.ScanSizeLemmas.{sizes_are_few}
 
 -- ---- numbered types
 

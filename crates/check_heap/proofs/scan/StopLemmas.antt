@@ -15,14 +15,14 @@ use Rattle.types_table.specs.type_table.Made.{IsLawful}
 use Rattle.check_heap.specs.declared.scan.notes.Unmet.{Unmet}
 use Rattle.check_heap.specs.declared.scan.taken_objects.TakenObjects.{TakenObjects}
 use Rattle.check_heap.specs.declared.scan.taken_objects.ScanMismatch.TheVariants as unfits
-use Rattle.check_heap.specs.scan.Taken.{types_in, all_fields, seen_of, is_unfit_field, is_unfit_object, size_of, rest_of}
-use Rattle.types_spec.proofs.types.AskedLemmas.{need_typed}
+use Rattle.check_heap.specs.scan.TakenObjects.{types_in, all_fields, seen_of, is_unfit_field, is_unfit_object, size_of, rest_of}
+use Rattle.types_spec.proofs.types.TypeAskedLemmas.{need_typed}
 use Rattle.check_heap.specs.scan.Scanned.{object_needs, object_typed, IsSeen, AreTaken, cost_of, left_of}
 use Rattle.check_heap.specs.scan.Scan.{mark_of, IsMet, IsNoted, IsUnfit, IsUnmet, IsScanning}
-use Rattle.check_heap.proofs.scan.MarkLemmas.{never_noted}
+use Rattle.check_heap.proofs.scan.ScanMarkLemmas.{never_noted}
 use Rattle.check_heap.proofs.scan.IncreaseLemmas.{position_before, position_same}
-use Rattle.check_heap.proofs.scan.PositionLemmas.{slice_get-push_cases}
-use Rattle.check_heap.proofs.scan.NeedLemmas.{increase}
+use Rattle.check_heap.proofs.scan.ScanPositionLemmas.{slice_get-push_cases}
+use Rattle.check_heap.proofs.scan.ScanNeedLemmas.{increase}
 use Rattle.check_heap.proofs.scan.ScanLemmas.{scanned_within, cost_more}
 
 -- ---- tests of numbers

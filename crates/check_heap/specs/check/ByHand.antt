@@ -4,7 +4,7 @@ use Rattle.base_data.specs.declared.model.value.Val.TheVariants as vals
 use Rattle.base_data.specs.declared.model.value.Obj.{Obj}
 use Rattle.base_data.specs.declared.model.value.Obj.TheVariants as objects
 use Rattle.types_spec.specs.declared.types.shape.ShapeOf.TheVariants as shapes
-use Rattle.types_spec.specs.types.Steps.{most_steps}
+use Rattle.types_spec.specs.types.StepBounds.{most_steps}
 use Rattle.types_spec.specs.types.Table.{Table}
 
 -- The table of `item list`, where `type item = Nil | Num of int | Text of string | Pair of item *

@@ -5,10 +5,10 @@ use Rattle.base_data.specs.declared.model.value.Val.{Val}
 use Rattle.base_data.specs.declared.model.value.Val.TheVariants as vals
 use Rattle.base_data.specs.declared.model.value.Obj.{Obj}
 use Rattle.types_spec.specs.types.Fault.{IsBefore, field_of, value_at}
-use Rattle.types_spec.specs.types.Searched.{Entry, IsEntered}
+use Rattle.types_spec.specs.types.SearchedPaths.{Entry, IsEntered}
 use Rattle.types_spec.specs.types.Table.{Table, table_shapes, typed_fields, is_asked_in}
 use Rattle.check_heap.specs.declared.check.visits.Visit.{Visit}
-use Rattle.check_heap.specs.check.Known.{AreOrdered, AreKnown}
+use Rattle.check_heap.specs.check.KnownVisits.{AreOrdered, AreKnown}
 
 -- Field `j` of visit `k` precedes field `r` of visit `n`. The fields are counted among the fields
 -- that have types.

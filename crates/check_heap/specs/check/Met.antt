@@ -4,10 +4,10 @@ use Rattle.base_data.specs.declared.model.value.Val.{Val}
 use Rattle.base_data.specs.declared.model.value.Val.TheVariants as vals
 use Rattle.base_data.specs.declared.model.value.Obj.{Obj}
 use Rattle.types_spec.specs.types.Fault.{IsBefore, value_at}
-use Rattle.types_spec.specs.types.Searched.{Entry, IsEntered}
+use Rattle.types_spec.specs.types.SearchedPaths.{Entry, IsEntered}
 use Rattle.types_spec.specs.types.Table.{Table, table_shapes}
 use Rattle.check_heap.specs.declared.check.visits.Visit.{Visit}
-use Rattle.check_heap.specs.check.Known.{AreOrdered, AreKnown}
+use Rattle.check_heap.specs.check.KnownVisits.{AreOrdered, AreKnown}
 
 -- The visits are complete and minimal:
 --

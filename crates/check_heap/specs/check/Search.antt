@@ -12,13 +12,13 @@ use Rattle.types_spec.specs.types.LeastFault.{IsLeastFault}
 use Rattle.types_spec.specs.types.Table.{Table, table_shapes, typed_fields}
 use Rattle.marshal_heap.specs.heap.Heap as heap
 use Rattle.check_heap.specs.declared.scan.taken_objects.TakenObjects.{TakenObjects}
-use Rattle.check_heap.specs.scan.Taken.{types_in, seen_of, size_of, rest_of}
+use Rattle.check_heap.specs.scan.TakenObjects.{types_in, seen_of, size_of, rest_of}
 use Rattle.check_heap.specs.scan.Scanned.{IsSeen}
 use Rattle.check_heap.specs.declared.check.visits.Visit.{Visit}
 use Rattle.check_heap.specs.declared.check.search.RequiredField.{RequiredField}
 use Rattle.check_heap.specs.declared.check.visits.Visits.{Visits}
 use Rattle.check_heap.specs.check.Visits.{listed, AreLinked, Enters}
-use Rattle.check_heap.specs.check.Known.{AreOrdered, IsPathOf}
+use Rattle.check_heap.specs.check.KnownVisits.{AreOrdered, IsPathOf}
 use Rattle.check_heap.specs.check.Explored.{IsExplored, root_of}
 
 -- ---- one required field
@@ -60,20 +60,20 @@ pub record IsMismatchAt (table : Table) (graph : List Obj) (all : List Visit) (n
       → IsLeastFault (table_shapes table) graph (vals.Ref (root_of all)) 0
       (Mismatch (path ++ step ∷ []))
 
-pub record Grows (old new : List Visit) : Type 0 where
+pub record GrowsVisits (old new : List Visit) : Type 0 where
   pub added : List Visit
   pub extends : new ≡ old ++ added
 
 -- All required fields among the first `r` fields of visit `n` are tested.
 pub record IsTesting (table : Table) (graph : List Obj) (old now : List Visit) (n r : ℕ)
     : Type 0 where
-  pub grows : Grows old now
+  pub grows : GrowsVisits old now
   pub explored : IsExplored table graph now n r
 
 -- All required fields of visit `n` are tested, up to the first mismatch.
 pub record TestsVisit (table : Table) (graph : List Obj) (old new : List Visit) (n : ℕ)
     (mismatch : Option ℕ) : Type 0 where
-  pub grows : Grows old new
+  pub grows : GrowsVisits old new
   pub tested : MatchOption mismatch (IsExplored table graph new (suc n) 0)
       (IsMismatchAt table graph new n)
 
@@ -117,9 +117,9 @@ cost_at table graph taken all n = cost_or_none table graph taken (slice_get all 
 -- ---- all visits
 
 -- All required fields of each visit are tested, up to the first mismatch.
-pub record Searches (table : Table) (graph : List Obj) (old new : List Visit)
+pub record SearchesVisits (table : Table) (graph : List Obj) (old new : List Visit)
     (mismatch : Option (ℕ × ℕ)) : Type 0 where
-  pub grows : Grows old new
+  pub grows : GrowsVisits old new
   pub tested : MatchOption mismatch (IsExplored table graph new (length new) 0)
       (λ at. IsMismatchAt table graph new at.0 at.1)
 
@@ -153,7 +153,7 @@ pub record IsTestingVisit (table : Table) (graph : List Obj) (old now : Visits) 
 pub record IsSearching (table : Table) (graph : List Obj) (taken : TakenObjects) (old now : Visits)
     (n start steps : ℕ) : Type 0 where
   pub linked : AreLinked table (length graph) now
-  pub grows : Grows (listed old) (listed now)
+  pub grows : GrowsVisits (listed old) (listed now)
   pub explored : IsExplored table graph (listed now) n 0
   pub within : n ≤ length (listed now)
   pub few : steps ≤ start + spent table graph taken (listed now) n

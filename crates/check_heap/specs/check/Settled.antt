@@ -9,7 +9,7 @@ use Rattle.marshal_heap.specs.heap.Heap.{field_at}
 use Rattle.check_heap.specs.declared.scan.second_types.SecondTypes.{SecondTypes}
 use Rattle.check_heap.specs.scan.Paths.{HasPath}
 use Rattle.check_heap.specs.scan.Seconds.{noted_in}
-use Rattle.check_heap.specs.scan.Taken.{size_of}
+use Rattle.check_heap.specs.scan.TakenObjects.{size_of}
 use Rattle.check_heap.specs.scan.Scanned.{object_needs, object_typed, IsFoundIn, pairs_with}
 use Rattle.check_heap.specs.scan.Scanned.{IsScannedBut}
 
@@ -44,7 +44,7 @@ pub record Extends (old new : List (ℕ × ℕ)) : Type 0 where
   pub is : new ≡ old ++ added
 
 -- The value is found at the type, after further pairs may have been recorded.
-pub record Finds (table : Table) (graph : List Obj) (types : List ℕ) (old new : SecondTypes)
+pub record FindsValue (table : Table) (graph : List Obj) (types : List ℕ) (old new : SecondTypes)
     (v : Val)
     (t : ℕ) : Type 0 where
   pub over : AreOver table graph types new

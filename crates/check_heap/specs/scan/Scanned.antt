@@ -6,7 +6,7 @@ use Rattle.base_data.specs.declared.model.value.Val.{Val}
 use Rattle.base_data.specs.declared.model.value.Val.TheVariants as vals
 use Rattle.base_data.specs.declared.model.value.Obj.{Obj}
 use Rattle.types_spec.specs.types.Fitting.{numbered_from}
-use Rattle.types_spec.specs.types.Steps.{most_steps}
+use Rattle.types_spec.specs.types.StepBounds.{most_steps}
 use Rattle.types_spec.specs.types.Table.{Table, table_shapes, typed_fields}
 use Rattle.types_spec.specs.types.Typing.{IsListed, IsTyping}
 use Rattle.marshal_heap.specs.heap.Heap.{field_at}
@@ -15,8 +15,9 @@ use Rattle.check_heap.specs.declared.scan.straight.Scanned.{Scanned}
 use Rattle.check_heap.specs.declared.scan.straight.Scanned.TheVariants as answers
 use Rattle.check_heap.specs.declared.scan.taken_objects.TakenObjects.{TakenObjects}
 use Rattle.check_heap.specs.scan.Seconds.{noted_in, AreSeconds}
-use Rattle.check_heap.specs.scan.Taken.{types_in, seen_of, is_unfit_field, is_unfit_object, size_of}
-use Rattle.check_heap.specs.scan.Taken.{rest_of}
+use Rattle.check_heap.specs.scan.TakenObjects.{types_in, seen_of, is_unfit_field, is_unfit_object}
+use Rattle.check_heap.specs.scan.TakenObjects.{size_of}
+use Rattle.check_heap.specs.scan.TakenObjects.{rest_of}
 
 -- The required fields of an object at a type.
 abbrev pub object_needs : Table → List Obj → ℕ → ℕ → List (ℕ × ℕ)

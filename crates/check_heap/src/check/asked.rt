@@ -7,9 +7,9 @@ ghost use Rattle.types_spec.specs.types.Table.{is_asked_in};
 ghost use Rattle.types_table.specs.type_table.Made.{table_of};
 ghost use Rattle.check_heap.specs.scan.Scanned.{pairs_with};
 ghost use Rattle.check_heap.specs.scan.Seconds.{noted_in};
-ghost use Rattle.check_heap.specs.check.Asked.{asked_pairs, AreAsked, AreWithin, AreReached};
+ghost use Rattle.check_heap.specs.check.AskedPairs.{asked_pairs, AreAsked, AreWithin, AreReached};
 
-use crate::check::typing::Typing;
+use crate::check::typed_objects::Typing;
 use crate::fits::is_asked;
 use crate::scan::{Cells, SecondTypes};
 use base_data::model::Memory;

@@ -6,11 +6,11 @@ ghost use Rattle.base_data.specs.model.Graph.{IsValue};
 ghost use Rattle.types_spec.specs.types.Table.{table_shapes};
 ghost use Rattle.types_spec.specs.types.Typing.{HasType};
 ghost use Rattle.types_table.specs.type_table.Made.{table_of};
-ghost use Rattle.check_heap.specs.check.Known.{AreOrdered, IsPathOf};
+ghost use Rattle.check_heap.specs.check.KnownVisits.{AreOrdered, IsPathOf};
 ghost use Rattle.check_heap.specs.check.Met.{AreAllMet};
 
-use crate::check::path::path_of;
 use crate::check::search::search;
+use crate::check::visit_path::path_of;
 use crate::check::visits::Visits;
 use crate::scan::{Fitting, Steps, TakenObjects, rows_of};
 use base_data::model::Memory;

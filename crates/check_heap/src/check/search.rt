@@ -10,15 +10,16 @@ ghost use Rattle.marshal_heap.specs.heap.Heap.{object_at, fields_of, field_at, w
 ghost use Rattle.marshal_heap.specs.heap.Heap.{IsReferenceWord};
 ghost use Rattle.types_spec.specs.types.Table.{table_shapes};
 ghost use Rattle.check_heap.specs.fits.Needs.{needs_in};
-ghost use Rattle.types_spec.specs.types.Steps.{most_steps};
+ghost use Rattle.types_spec.specs.types.StepBounds.{most_steps};
 ghost use Rattle.types_table.specs.type_table.Made.{table_of};
-ghost use Rattle.check_heap.specs.scan.Fitting.{table_in};
-ghost use Rattle.check_heap.specs.scan.Taken.{types_in, seen_of, size_of, rest_of};
+ghost use Rattle.check_heap.specs.scan.TypeRows.{table_in};
+ghost use Rattle.check_heap.specs.scan.TakenObjects.{types_in, seen_of, size_of, rest_of};
 ghost use Rattle.check_heap.specs.scan.Scanned as scans;
 ghost use Rattle.check_heap.specs.scan.Scanned.{AreTaken, IsSeen, IsSeenObject, left_of};
 ghost use Rattle.check_heap.specs.check.Visits.{listed, AreLinked};
 ghost use Rattle.check_heap.specs.check.Explored.{IsExplored};
-ghost use Rattle.check_heap.specs.check.Search.{FitAll, TestsNeed, TestsVisit, Searches, AreSeen};
+ghost use Rattle.check_heap.specs.check.Search.{FitAll, TestsNeed, TestsVisit, SearchesVisits};
+ghost use Rattle.check_heap.specs.check.Search.{AreSeen};
 ghost use Rattle.check_heap.specs.check.Search.{cost_at};
 ghost use Rattle.check_heap.specs.check.Search.{is_taken, visit_fields};
 
@@ -55,7 +56,7 @@ pub fn search(
     requires taken { AreTaken (table_in fitting) heap.now taken.now }
     ensures linked { OnOk result (AreLinked (table_in fitting.entry) (length heap.now) visits.new) }
     ensures searches { IfOk result
-        (Searches (table_in fitting.entry) heap.now (listed visits.old) (listed visits.new)) }
+        (SearchesVisits (table_in fitting.entry) heap.now (listed visits.old) (listed visits.new)) }
     ensures steps { steps.new + scans.cost_of heap.now (types_in taken.now) + 1
         ≤ steps.old + left_of heap.now taken.now + most_steps (table_in fitting.entry) heap.now }
 {

@@ -8,12 +8,13 @@ ghost use Rattle.base_data.specs.declared.model.value.Val.TheVariants as vals;
 ghost use Rattle.marshal_heap.specs.heap.Heap.{field_at, word_of};
 ghost use Rattle.types_spec.specs.types.Table.{is_asked_in};
 ghost use Rattle.check_heap.specs.fits.Needs.{needs_in};
-ghost use Rattle.check_heap.specs.scan.Fitting.{table_in};
+ghost use Rattle.check_heap.specs.scan.TypeRows.{table_in};
 ghost use Rattle.check_heap.specs.scan.Paths.{HasPath};
 ghost use Rattle.check_heap.specs.scan.Seconds.{noted_in};
-ghost use Rattle.check_heap.specs.scan.Taken.{size_of};
+ghost use Rattle.check_heap.specs.scan.TakenObjects.{size_of};
 ghost use Rattle.check_heap.specs.scan.Scanned.{object_typed};
-ghost use Rattle.check_heap.specs.check.Settled.{AreOver, IsSettling, Finds, FindsNeeds, Settles};
+ghost use Rattle.check_heap.specs.check.Settled.{AreOver, IsSettling, FindsValue, FindsNeeds};
+ghost use Rattle.check_heap.specs.check.Settled.{Settles};
 ghost use Rattle.check_heap.specs.check.Settled.{IsSettled, cost_of_pairs};
 
 use crate::fits::{Needs, is_asked, is_mutable, known_needs};
@@ -163,7 +164,7 @@ fn settle_need(
     requires path { HasPath (table_in fitting) heap.now (vals.Ref 0) _object _ty }
     ensures finds { IfOk result
         (λ met. OnTrue met
-        (Finds (table_in fitting.entry) heap.now types.now seconds.old seconds.new
+        (FindsValue (table_in fitting.entry) heap.now types.now seconds.old seconds.new
         (field_at heap.now _object _field) needed)) }
 {
     fitting.table.holds();

@@ -8,11 +8,11 @@ ghost use Rattle.types_spec.specs.types.Fault.{type_of_field};
 ghost use Rattle.types_spec.specs.types.Fitting.{fields_of, object_fields, none_if, numbered_from};
 ghost use Rattle.check_heap.specs.fits.Needs.{needs_in, first_fields, constr_needed};
 
-use crate::fits::parts::{block_needs, block_tag, fits_custom};
+use crate::fits::kind_fits::{block_needs, block_tag, fits_custom};
 use base_data::model::value::Val;
 use marshal_heap::heap::{Heap, Kind, NumberedObject};
 use types_spec::types::shape::{Constr, ShapeOf};
-use types_table::fits::{fits_atom, fits_doubles, fits_int};
+use types_table::leaf_fits::{fits_atom, fits_doubles, fits_int};
 
 /// The fields to which a shape assigns types, in a value that matches the shape, each with its
 /// type. A field is required only if the field's type constrains its values.

@@ -6,8 +6,8 @@ ghost use Rattle.base_data.specs.declared.model.value.Val.{Val};
 ghost use Rattle.types_spec.specs.declared.types.shape.ShapeOf.{ShapeOf};
 ghost use Rattle.types_spec.specs.types.Fitting as fitting;
 ghost use Rattle.marshal_heap.specs.heap.Heap.{integer_word, word_of, IsFieldWord};
-ghost use Rattle.check_heap.specs.fits.Row.{IsRowOf, IsSized, IsFirstHeader, Agree, IsNear};
-ghost use Rattle.check_heap.specs.fits.Row.{IsSizeAt};
+ghost use Rattle.check_heap.specs.fits.ObjectRow.{IsRowOf, IsSized, IsFirstHeader, Agree, IsNear};
+ghost use Rattle.check_heap.specs.fits.ObjectRow.{IsSizeAt};
 ghost use Rattle.std.specs.Bool.{OnTrue};
 
 use marshal_heap::heap::Heap;

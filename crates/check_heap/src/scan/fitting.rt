@@ -6,10 +6,10 @@ ghost use Rattle.base_data.specs.declared.model.value.Val.{Val};
 ghost use Rattle.marshal_heap.specs.heap.Heap.{word_of, IsFieldWord};
 ghost use Rattle.types_spec.specs.types.Table.{table_shapes};
 ghost use Rattle.types_table.specs.type_table.Made.{table_of};
-ghost use Rattle.check_heap.specs.scan.Fitting.{table_in};
+ghost use Rattle.check_heap.specs.scan.TypeRows.{table_in};
 
 use crate::fits::{needs_of, surely_fits};
-use crate::scan::rows::Fitting;
+use crate::scan::type_rows::Fitting;
 use base_data::model::value::Val;
 use marshal_heap::heap::Heap;
 use types_table::type_table::TypeTable;

@@ -10,8 +10,8 @@ ghost use Rattle.marshal_heap.specs.heap.Heap.{word_of, field_at, IsFieldWord, I
 ghost use Rattle.types_spec.specs.types.Table.{table_shapes, is_asked_in};
 ghost use Rattle.check_heap.specs.fits.Needs.{needs_in};
 ghost use Rattle.types_table.specs.type_table.Made.{table_of};
-ghost use Rattle.check_heap.specs.scan.Fitting.{table_in};
-ghost use Rattle.check_heap.specs.scan.Taken.{types_in};
+ghost use Rattle.check_heap.specs.scan.TypeRows.{table_in};
+ghost use Rattle.check_heap.specs.scan.TakenObjects.{types_in};
 ghost use Rattle.check_heap.specs.scan.Paths.{HasPath, IsWildcard, IsLed, HavePaths};
 ghost use Rattle.check_heap.specs.scan.Scanned.{object_typed, Reports, AreTaken, AreCounted};
 ghost use Rattle.check_heap.specs.scan.Scanned.{cost_of};
@@ -27,15 +27,15 @@ ghost use Rattle.check_heap.specs.scan.Scan.{IsGoing, IsStopped, IsScanning, Sto
 ghost use Rattle.check_heap.specs.declared.scan.straight.ScanStop.TheVariants as stops;
 
 use crate::fits::{Needs, is_asked, known_needs};
-use crate::scan::cells::Cells;
 use crate::scan::fitting::fits_type;
-use crate::scan::listed::{listed_types, needs_nothing};
+use crate::scan::listed_objects::{listed_types, needs_nothing};
 use crate::scan::notes::{First, Notes, Unmet};
-use crate::scan::passed::wildcard_type;
-use crate::scan::rows::Fitting;
+use crate::scan::number_cells::Cells;
 use crate::scan::second_types::SecondTypes;
-use crate::scan::steps::Steps;
+use crate::scan::skipped_type::wildcard_type;
+use crate::scan::step_counter::Steps;
 use crate::scan::taken_objects::{ScanMismatch, TakenObjects};
+use crate::scan::type_rows::Fitting;
 use base_data::model::Memory;
 use base_data::model::value::Val;
 use marshal_heap::heap::Heap;

@@ -1,10 +1,10 @@
 //! The objects that a scan checked before it ended.
 
 ghost use Rattle.std.specs.Prelude.{ℕ, ◌≡◌, [], slice_get, IfOk};
-ghost use Rattle.check_heap.specs.scan.Taken.{types_in, seen_of, rest_of, is_unfit_field};
-ghost use Rattle.check_heap.specs.scan.Taken.{is_unfit_object};
+ghost use Rattle.check_heap.specs.scan.TakenObjects.{types_in, seen_of, rest_of, is_unfit_field};
+ghost use Rattle.check_heap.specs.scan.TakenObjects.{is_unfit_object};
 
-use crate::scan::cells::Cells;
+use crate::scan::number_cells::Cells;
 use base_data::model::Memory;
 use std::alloc::Global;
 

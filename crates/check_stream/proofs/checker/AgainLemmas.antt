@@ -4,7 +4,7 @@ use Rattle.std.specs.Prelude.{slice_get, IsTrue, IfSome, Option, None, ◌-◌}
 use Rattle.std.proofs.lemmas.List.{append_assoc, append-nil, length-append, length-drop, length-map, length-take-le, take-append-drop, drop-append-le, drop-drop, drop_at, drop_all, take_rest}
 use Rattle.std.proofs.Math.Seq.{drop-cons}
 use Rattle.std.proofs.lemmas.Option.{none-some}
-use Rattle.marshal_spec.proofs.canonical.ListLemmas.{slice_get_push_cases}
+use Rattle.marshal_spec.proofs.canonical.CanonicalListLemmas.{slice_get_push_cases}
 use Rattle.base_data.specs.declared.model.value.Obj.TheVariants as objs
 use Rattle.types_spec.specs.types.Table.{Table}
 use Rattle.types_spec.specs.types.Fitting.{is_mutable}
@@ -15,9 +15,9 @@ use Rattle.marshal_spec.proofs.format.RawLemmas.{IsRaw-same}
 use Rattle.marshal_spec.proofs.format.EncodeLemmas.{IsRaw-encoded, Encodes-same}
 use Rattle.marshal_spec.proofs.format.Counts.{objects-tokens-append, objects-tokens-cons}
 use Rattle.marshal_spec.proofs.format.EncodeValues.{IsToken-encoded}
-use Rattle.check_stream.specs.theory.Asked.{of_type, shape_at, block_needs}
+use Rattle.check_stream.specs.theory.AskedNeeds.{of_type, shape_at, block_needs}
 use Rattle.check_stream.specs.theory.Noted.{IsAt, IsFlat, Stands, flat_values, IsFlatNoted}
-use Rattle.check_stream.proofs.theory.NotedLemmas.{stands_after}
+use Rattle.check_stream.proofs.theory.OnePassNotedLemmas.{stands_after}
 use Rattle.marshal_codec.specs.declared.token.summary.Summary.{Summary}
 use Rattle.marshal_codec.specs.declared.token.summary.Summary.TheVariants as summaries
 use Rattle.marshal_codec.specs.token.Summary.{IsSummary, IsSummaryBy, summary_measure}

@@ -6,10 +6,10 @@ use Rattle.types_spec.specs.declared.types.shape.PolyTag.{PolyTag}
 use Rattle.types_spec.specs.types.Fitting.{fits_int, fits_atom, tag_with}
 use Rattle.types_spec.specs.types.Table.{Table}
 use Rattle.marshal_spec.specs.format.Token.{integer, atom, shared, block}
-use Rattle.check_stream.specs.theory.Asked.{Need, of_type, hash_of, shape_at, fields_ask, IsBackAt}
+use Rattle.check_stream.specs.theory.AskedNeeds.{Need, of_type, hash_of, shape_at, fields_ask, IsBackAt}
 use Rattle.check_stream.specs.declared.checker.check_state.CheckState.{CheckState}
-use Rattle.check_stream.specs.checker.State.{types_in, needs_in, Took}
-use Rattle.check_stream.specs.declared.checker.words.Words.{Words}
+use Rattle.check_stream.specs.checker.CheckerState.{types_in, needs_in, Took}
+use Rattle.check_stream.specs.declared.checker.stated_words.Words.{Words}
 
 module _ (table : Table) (state : CheckState) where
   pub took_integer : (t : ℕ) (z : ℤ) → IsTrue (fits_int (shape_at table t) z) → Took table state state (of_type t) (integer z)

@@ -9,15 +9,15 @@ use Rattle.base_data.specs.declared.model.value.Val.{Val}
 use Rattle.base_data.specs.declared.model.value.Val.TheVariants as vals
 use Rattle.base_data.specs.declared.model.value.Obj.{Obj}
 use Rattle.types_spec.specs.types.Fitting.{fits_int, fits_atom}
-use Rattle.types_spec.specs.types.Lawful.{Everything, AreLawful}
+use Rattle.types_spec.specs.types.LawfulShapes.{Everything, AreLawful}
 use Rattle.types_spec.specs.types.Table.{Table, table_shapes, is_asked_in}
 use Rattle.types_spec.specs.types.Typing.{field_at, IsHeld}
 use Rattle.types_spec.specs.types.Fault.{step}
-use Rattle.check_stream.specs.theory.Asked.{shape_at}
+use Rattle.check_stream.specs.theory.AskedNeeds.{shape_at}
 use Rattle.check_stream.proofs.theory.Kernel.{some_if}
 use Rattle.check_stream.specs.mismatch_theory.OnlyWay.{AreHeldBut, IsNeededOf, IsWay, IsOnlyWay}
-use Rattle.check_stream.specs.mismatch_theory.PassedBut.{Made, HasFirst}
-use Rattle.check_stream.proofs.mismatch_theory.PlainLemmas.{FitsAlone, IsAlone, held_alone}
+use Rattle.check_stream.specs.mismatch_theory.PassedBut.{MadeObject, HasFirst}
+use Rattle.check_stream.proofs.mismatch_theory.MismatchPlainLemmas.{FitsAlone, IsAlone, held_alone}
 
 -- ---- the pairs of objects and their types
 
@@ -25,17 +25,17 @@ abbrev typed_pair : ℕ → Option ℕ → List (ℕ × ℕ)
 typed_pair n None = []
 typed_pair n (Some t) = (n, t) ∷ []
 
-abbrev pub pairs_from : ℕ → List Made → List (ℕ × ℕ)
+abbrev pub pairs_from : ℕ → List MadeObject → List (ℕ × ℕ)
 pairs_from n [] = []
 pairs_from n (first ∷ made) = typed_pair n first.type ++ pairs_from (suc n) made
 
-abbrev pub IsMadeAt : List Made → ℕ → ℕ → List (ℕ × ℕ) → Type 0
+abbrev pub IsMadeAt : List MadeObject → ℕ → ℕ → List (ℕ × ℕ) → Type 0
 IsMadeAt made o t trail = slice_get made o ≡ Some record { type = Some t; trail = trail }
 
-pub pair_in : (n : ℕ) (made : List Made) (k t : ℕ) (trail : List (ℕ × ℕ)) → IsMadeAt made k t trail → Contains (pairs_from n made) (n + k, t)
+pub pair_in : (n : ℕ) (made : List MadeObject) (k t : ℕ) (trail : List (ℕ × ℕ)) → IsMadeAt made k t trail → Contains (pairs_from n made) (n + k, t)
 pair_in n [] k t trail at = absurd (none-some record { type = Some t; trail = trail } at)
 pair_in n (first ∷ made) zero t trail at =
-    let typed : first.type ≡ Some t = ap (λ (m : Made). m.type) (same_Some first record { type = Some t; trail = trail } at) in
+    let typed : first.type ≡ Some t = ap (λ (m : MadeObject). m.type) (same_Some first record { type = Some t; trail = trail } at) in
     let here : Contains (typed_pair n (Some t)) (n, t) = Contains-first {X = ℕ × ℕ} (n, t) [] in
     let there = Contains-append_left (typed_pair n first.type) (pairs_from (suc n) made) (n, t) (subst (λ x. Contains (typed_pair n x) (n, t)) (sym typed) here) in
     let same : n ≡ n + zero = omega arith in
@@ -45,13 +45,13 @@ pair_in n (first ∷ made) (suc k) t trail at =
     Contains-append_right (typed_pair n first.type) (pairs_from (suc n) made) (n + suc k, t)
     (subst (λ m. Contains (pairs_from (suc n) made) (m, t)) same (pair_in (suc n) made k t trail at))
 
-record IsPairOf (n : ℕ) (made : List Made) (o t : ℕ) : Type 0 where
+record IsPairOf (n : ℕ) (made : List MadeObject) (o t : ℕ) : Type 0 where
   position : ℕ
   trail : List (ℕ × ℕ)
   is : o ≡ n + position
   at : IsMadeAt made position t trail
 
-first_pair : (n : ℕ) (first : Made) (made : List Made) (o t : ℕ) (type : Option ℕ) → first.type ≡ type → Contains (typed_pair n type) (o, t) → IsPairOf n (first ∷ made) o t
+first_pair : (n : ℕ) (first : MadeObject) (made : List MadeObject) (o t : ℕ) (type : Option ℕ) → first.type ≡ type → Contains (typed_pair n type) (o, t) → IsPairOf n (first ∷ made) o t
 first_pair n first made o t None is among = absurd (Contains-none {X = ℕ × ℕ} (o, t) among)
 first_pair n first made o t (Some u) is among = ⊎_elim
     (λ same.
@@ -61,22 +61,22 @@ first_pair n first made o t (Some u) is among = ⊎_elim
     (λ none. absurd (Contains-none {X = ℕ × ℕ} (o, t) none))
     (Contains-cases {X = ℕ × ℕ} (n, u) [] (o, t) among)
 
-pair_out : (n : ℕ) (made : List Made) (o t : ℕ) → Contains (pairs_from n made) (o, t) → IsPairOf n made o t
+pair_out : (n : ℕ) (made : List MadeObject) (o t : ℕ) → Contains (pairs_from n made) (o, t) → IsPairOf n made o t
 pair_out n [] o t among = absurd (Contains-none {X = ℕ × ℕ} (o, t) among)
 pair_out n (first ∷ made) o t among = ⊎_elim
     (λ here. first_pair n first made o t first.type refl here)
     (λ later. let r = pair_out (suc n) made o t later in let is = r.is in record { position = suc r.position; trail = r.trail; is = omega (arith, is); at = r.at })
     (Contains-append_cases (typed_pair n first.type) (pairs_from (suc n) made) (o, t) among)
 
-abbrev pub typed_of : List Made → List (ℕ × ℕ)
+abbrev pub typed_of : List MadeObject → List (ℕ × ℕ)
 typed_of made = pairs_from 0 made
 
-pub typed_in : (made : List Made) (o t : ℕ) (trail : List (ℕ × ℕ)) → IsMadeAt made o t trail → Contains (typed_of made) (o, t)
+pub typed_in : (made : List MadeObject) (o t : ℕ) (trail : List (ℕ × ℕ)) → IsMadeAt made o t trail → Contains (typed_of made) (o, t)
 typed_in made o t trail at =
     let same : 0 + o ≡ o = omega arith in
     subst (λ k. Contains (typed_of made) (k, t)) same (pair_in 0 made o t trail at)
 
-pub made_of : (made : List Made) (o t : ℕ) → Contains (pairs_from 0 made) (o, t) → (trail : List (ℕ × ℕ)) × IsMadeAt made o t trail
+pub made_of : (made : List MadeObject) (o t : ℕ) → Contains (pairs_from 0 made) (o, t) → (trail : List (ℕ × ℕ)) × IsMadeAt made o t trail
 made_of made o t among =
     let r = pair_out 0 made o t among in
     let is = r.is in
@@ -89,7 +89,7 @@ first_link (link ∷ trail) = link
 
 -- ---- the invariant of each object
 
-module _ (table : Table) (graph : List Obj) (made : List Made) (back : List ℕ) (noted : List (ℕ × ℕ)) (root : Val) (missed : List (ℕ × ℕ)) where
+module _ (table : Table) (graph : List Obj) (made : List MadeObject) (back : List ℕ) (noted : List (ℕ × ℕ)) (root : Val) (missed : List (ℕ × ℕ)) where
   abbrev NotBack : ℕ × ℕ → Type 0
   NotBack link = Contains back link.0 → ⊥
 
@@ -185,14 +185,14 @@ module _ (table : Table) (graph : List Obj) (made : List Made) (back : List ℕ)
     -- object's trail.
     fine_trail : (o s a : ℕ) (trail position : List (ℕ × ℕ)) → IsMadeAt made o s trail → (Contains back o → ⊥) → IsFine position (vals.Ref o) a → trail ≡ position
     fine_trail o s a trail position at not (inl at') =
-        ap (λ (m : Made). m.trail) (same_Some record { type = Some s; trail = trail } record { type = Some a; trail = position } (sym at ∙ at'))
+        ap (λ (m : MadeObject). m.trail) (same_Some record { type = Some s; trail = trail } record { type = Some a; trail = position } (sym at ∙ at'))
     fine_trail o s a trail position at not (inr again) = absurd (not again.led)
 
     placed_trail : (o s a : ℕ) (trail position : List (ℕ × ℕ)) → IsMadeAt made o s trail → (Contains back o → ⊥) → IsPlaced position (vals.Ref o) a → trail ≡ position
     placed_trail o s a trail position at not (inl fine) = fine_trail o s a trail position at not fine
     placed_trail o s a trail position at not (inr missed') =
         let r = missed'.object o refl in
-        ap (λ (m : Made). m.trail) (same_Some record { type = Some s; trail = trail } record { type = r.0; trail = position } (sym at ∙ r.1))
+        ap (λ (m : MadeObject). m.trail) (same_Some record { type = Some s; trail = trail } record { type = r.0; trail = position } (sym at ∙ r.1))
 
     -- A field of an object at a second type is not a reference.
     not_again : (o p j t a : ℕ) → Contains noted (p, t) → Contains ((table_shapes table).needs graph (vals.Ref p) t) (j, a) → field_at graph p j ≡ Some (vals.Ref o) → ⊥

@@ -14,14 +14,14 @@ use Rattle.types_spec.specs.declared.types.shape.ShapeOf.TheVariants as shapes
 use Rattle.types_spec.specs.types.Fitting.{or_none, object_fields, block_fields, tag_fields, argument_field, is_asked}
 use Rattle.types_spec.specs.types.Table.{Table, table_shapes, is_asked_in}
 use Rattle.types_spec.specs.types.Typing.{values_of}
-use Rattle.types_spec.proofs.types.AskedLemmas.{need_typed}
+use Rattle.types_spec.proofs.types.TypeAskedLemmas.{need_typed}
 use Rattle.marshal_spec.specs.format.Token.{IsLeaf}
-use Rattle.check_stream.specs.theory.Asked.{Need, of_type, hash_of, shape_at, block_needs, fields_ask}
+use Rattle.check_stream.specs.theory.AskedNeeds.{Need, of_type, hash_of, shape_at, block_needs, fields_ask}
 use Rattle.check_stream.proofs.theory.PassLemmas.{leaf_needs}
-use Rattle.check_stream.specs.mismatch_theory.PassedBut.{Made}
+use Rattle.check_stream.specs.mismatch_theory.PassedBut.{MadeObject}
 use Rattle.check_stream.proofs.mismatch_theory.BridgeLemmas.{IsFrom, IsField}
-use Rattle.check_stream.proofs.mismatch_theory.FieldLemmas.{AreFields, numbered, tagged, fields_are}
-use Rattle.check_stream.proofs.mismatch_theory.PlacedLemmas.{ArePlaced, fields_placed}
+use Rattle.check_stream.proofs.mismatch_theory.MismatchFieldLemmas.{AreFields, numbered, tagged, fields_are}
+use Rattle.check_stream.proofs.mismatch_theory.MismatchPlacedLemmas.{ArePlaced, fields_placed}
 use Rattle.check_stream.proofs.mismatch_theory.RealLemmas.{IsRealIf, real_from}
 
 -- A block at a wildcard has no required fields.
@@ -29,7 +29,7 @@ wildcard_fields : (shape : ShapeOf ℕ) (tag : ℕ) (values : List Val) → is_a
 wildcard_fields shapes.Anything tag values wildcard = refl
 wildcard_fields shape tag values wildcard = absurd (false≢true (sym wildcard))
 
-module _ (table : Table) (graph : List Obj) (all : List Made) (back : List ℕ) (noted : List (ℕ × ℕ)) (whole : Val) (missed : List (ℕ × ℕ)) where
+module _ (table : Table) (graph : List Obj) (all : List MadeObject) (back : List ℕ) (noted : List (ℕ × ℕ)) (whole : Val) (missed : List (ℕ × ℕ)) where
   pub record IsGoodBut (o t : ℕ) (trail : List (ℕ × ℕ)) : Type 0 where
     pub fits : (table_shapes table).fits graph (vals.Ref o) t
     pub fields : (i a : ℕ) → Contains ((table_shapes table).needs graph (vals.Ref o) t) (i, a) → IsField table graph all back noted whole missed o i trail a

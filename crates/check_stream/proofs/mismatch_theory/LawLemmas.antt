@@ -6,20 +6,20 @@ use Rattle.std.proofs.lemmas.List.{append-nil}
 use Rattle.std.proofs.lemmas.Option.{slice_get_within}
 use Rattle.base_data.specs.declared.model.value.Val.{Val}
 use Rattle.base_data.specs.declared.model.value.Obj.{Obj}
-use Rattle.types_spec.specs.types.Lawful.{Everything, AreLawful}
+use Rattle.types_spec.specs.types.LawfulShapes.{Everything, AreLawful}
 use Rattle.types_spec.specs.types.Table.{Table, table_shapes, is_asked_in}
 use Rattle.marshal_spec.specs.format.Tree.{Tree, IsTree, tokens, root, objects_of}
-use Rattle.check_stream.specs.theory.Asked.{of_type}
+use Rattle.check_stream.specs.theory.AskedNeeds.{of_type}
 use Rattle.check_stream.specs.mismatch_theory.MissedLaw.{IsEncodedBy, IsLeastMissed}
-use Rattle.check_stream.specs.mismatch_theory.PassedBut.{Position, Made, Missed, PassedBut}
+use Rattle.check_stream.specs.mismatch_theory.PassedBut.{OpenPosition, MadeObject, Missed, PassedBut}
 use Rattle.check_stream.proofs.mismatch_theory.BridgeLemmas.{IsMadeAt, AreMade}
-use Rattle.check_stream.proofs.mismatch_theory.EndLemmas.{IsMet, field_least, root_least}
-use Rattle.check_stream.proofs.mismatch_theory.PrefixLemmas.{PassesBut, IsFromStart, passes_from_start}
-use Rattle.check_stream.proofs.mismatch_theory.PlainLemmas.{plain_alone}
-use Rattle.check_stream.proofs.mismatch_theory.ReadLemmas.{Good, IsMetAs, IsReadBut, all_in, tree_read}
+use Rattle.check_stream.proofs.mismatch_theory.MismatchEndLemmas.{IsMet, field_least, root_least}
+use Rattle.check_stream.proofs.mismatch_theory.MismatchPrefixLemmas.{PassesBut, IsFromStart, passes_from_start}
+use Rattle.check_stream.proofs.mismatch_theory.MismatchPlainLemmas.{plain_alone}
+use Rattle.check_stream.proofs.mismatch_theory.MismatchReadLemmas.{Good, IsMetAs, IsReadBut, all_in, tree_read}
 use Rattle.check_stream.proofs.mismatch_theory.RealLemmas.{IsReal}
 
-module _ (table : Table) (lawful : AreLawful (table_shapes table) Everything) (back : List ℕ) (tree : Tree) (made : List Made) (m : Missed) (is : IsTree tree)
+module _ (table : Table) (lawful : AreLawful (table_shapes table) Everything) (back : List ℕ) (tree : Tree) (made : List MadeObject) (m : Missed) (is : IsTree tree)
     (passed : PassedBut back table (tokens tree) made [] (m ∷ [])) where
   abbrev graph : List Obj
   graph = objects_of tree 0
@@ -27,7 +27,7 @@ module _ (table : Table) (lawful : AreLawful (table_shapes table) Everything) (b
   abbrev whole : Val
   whole = root tree 0
 
-  abbrev start : List Position
+  abbrev start : List OpenPosition
   start = record { asks = Some (of_type 0); trail = [] } ∷ []
 
   from : IsFromStart back table made (tokens tree) (m ∷ [])

@@ -13,8 +13,8 @@ use Rattle.types_spec.specs.declared.types.shape.ShapeOf.TheVariants as shapes
 use Rattle.types_spec.specs.types.Fitting.{none_if, fits_int, fits_atom, object_fields, fields_if, constr_fields, block_fields, tag_fields, is_asked}
 use Rattle.types_spec.specs.types.Table.{Table, table_shapes, is_asked_in}
 use Rattle.marshal_spec.specs.format.Token.{Token, integer, atom, shared, block, leaf}
-use Rattle.check_heap.proofs.scan.PathLemmas.{any_object}
-use Rattle.check_stream.specs.theory.Asked.{of_type, hash_of, shape_at, needs_if, constr_needs, block_needs, shape_asks, fields_ask}
+use Rattle.check_heap.proofs.scan.ScanPathLemmas.{any_object}
+use Rattle.check_stream.specs.theory.AskedNeeds.{of_type, hash_of, shape_at, needs_if, constr_needs, block_needs, shape_asks, fields_ask}
 use Rattle.check_stream.specs.mismatch_theory.PassedBut.{Misses}
 use Rattle.check_stream.specs.mismatch_theory.MissedLaw.{IsEncodedBy}
 

@@ -11,13 +11,13 @@ use Rattle.types_spec.specs.declared.types.shape.PolyTag.{PolyTag}
 use Rattle.types_spec.specs.types.Fitting.{block_fields, tag_fields}
 use Rattle.types_spec.specs.types.Table.{Table, table_shapes, is_asked_in}
 use Rattle.types_spec.specs.types.Fault.{step}
-use Rattle.check_stream.specs.theory.Asked.{Need, of_type, hash_of, shape_at, block_needs, fields_ask, IsWildcard}
-use Rattle.check_stream.specs.mismatch_theory.PassedBut.{Made}
+use Rattle.check_stream.specs.theory.AskedNeeds.{Need, of_type, hash_of, shape_at, block_needs, fields_ask, IsWildcard}
+use Rattle.check_stream.specs.mismatch_theory.PassedBut.{MadeObject}
 use Rattle.check_stream.proofs.mismatch_theory.BridgeLemmas.{IsMadeAt, IsFrom}
-use Rattle.check_stream.proofs.mismatch_theory.FieldLemmas.{AreFields, numbered, tagged, fields_are, step_to_field, step_to_argument}
-use Rattle.check_stream.proofs.mismatch_theory.PlacedLemmas.{IsHashOf}
+use Rattle.check_stream.proofs.mismatch_theory.MismatchFieldLemmas.{AreFields, numbered, tagged, fields_are, step_to_field, step_to_argument}
+use Rattle.check_stream.proofs.mismatch_theory.MismatchPlacedLemmas.{IsHashOf}
 
-module _ (table : Table) (graph : List Obj) (all : List Made) (whole : Val) where
+module _ (table : Table) (graph : List Obj) (all : List MadeObject) (whole : Val) where
   -- The last step of the trail leads to the value `v` at type `t`.
   abbrev pub IsReal : List (ℕ × ℕ) → Val → ℕ → Type 0
   IsReal [] v t = (whole ≡ v) × (0 ≡ t)

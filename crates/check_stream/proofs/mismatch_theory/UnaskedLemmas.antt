@@ -9,13 +9,13 @@ use Rattle.types_spec.specs.types.Table.{Table}
 use Rattle.marshal_spec.specs.format.Words.{of_object, fields}
 use Rattle.marshal_spec.specs.format.Token.{Token, integer, atom, shared, block, leaf, IsToken, measure_of}
 use Rattle.marshal_spec.specs.format.Tree.{Tree, Forest, node, none, more, trees_in, IsTree, AreTrees, tokens, forest_tokens, made_by, all_made, made as made_of_tree}
-use Rattle.check_stream.specs.theory.Asked.{of_type}
+use Rattle.check_stream.specs.theory.AskedNeeds.{of_type}
 use Rattle.marshal_spec.proofs.format.Counts.{leaf_fields}
 use Rattle.check_stream.proofs.theory.PassLemmas.{leaf_made}
-use Rattle.check_stream.specs.mismatch_theory.PassedBut.{Position, Made, Missed, unasked, made_in, type_of_need}
-use Rattle.check_stream.proofs.mismatch_theory.PrefixLemmas.{PassesBut}
+use Rattle.check_stream.specs.mismatch_theory.PassedBut.{OpenPosition, MadeObject, Missed, unasked, made_in, type_of_need}
+use Rattle.check_stream.proofs.mismatch_theory.MismatchPrefixLemmas.{PassesBut}
 
-abbrev pub nothing : Position
+abbrev pub nothing : OpenPosition
 nothing = record { asks = None; trail = [] }
 
 pub unasked_are : (token : Token) → unasked token ≡ replicate (of_object fields (measure_of token)) nothing
@@ -25,7 +25,7 @@ unasked_are (shared offset) = refl
 unasked_are (block tag size) = refl
 unasked_are (leaf object) = ap (λ n. replicate n nothing) (sym (leaf_fields object))
 
-module _ (type : Option ℕ) (trail : List (ℕ × ℕ)) (made : List Made) where
+module _ (type : Option ℕ) (trail : List (ℕ × ℕ)) (made : List MadeObject) where
   -- If a token is read, then the number of objects grows by the number of objects that the token
   -- creates.
   pub made_long : (token : Token) → IsToken token → length (made ++ made_in type trail token) ≡ length made + made_by token
@@ -48,9 +48,9 @@ module _ (type : Option ℕ) (trail : List (ℕ × ℕ)) (made : List Made) wher
   made_there (block tag size) is o from to = last_there o from to
   made_there (leaf object) is o from to = let one = leaf_made object is in last_there o from (omega (arith, to, one))
 
-module _ (back : List ℕ) (table : Table) (noted : List (ℕ × ℕ)) (all : List Made) where
+module _ (back : List ℕ) (table : Table) (noted : List (ℕ × ℕ)) (all : List MadeObject) where
   -- The objects so far are a prefix of the objects after the last token.
-  pub prefix : (made : List Made) (positions : List Position) (tokens : List Token) (missed : List Missed) → PassesBut back table noted all made positions tokens missed → (later : List Made) × (made ++ later ≡ all)
+  pub prefix : (made : List MadeObject) (positions : List OpenPosition) (tokens : List Token) (missed : List Missed) → PassesBut back table noted all made positions tokens missed → (later : List MadeObject) × (made ++ later ≡ all)
   prefix made [] [] missed h = ([], append-nil made ∙ h.0)
   prefix made [] (token ∷ tokens) missed h = absurd h
   prefix made (position ∷ positions) [] missed h = absurd h
@@ -67,24 +67,24 @@ module _ (back : List ℕ) (table : Table) (noted : List (ℕ × ℕ)) (all : Li
       let r = prefix (made ++ one) (unasked token ++ positions) tokens missed h in
       (one ++ r.0, sym (append_assoc made one r.0) ∙ r.1)
 
-  pub kept_at : (made : List Made) (positions : List Position) (tokens : List Token) (missed : List Missed) (k : ℕ) (object : Made) → PassesBut back table noted all made positions tokens missed → slice_get made k ≡ Some object → slice_get all k ≡ Some object
+  pub kept_at : (made : List MadeObject) (positions : List OpenPosition) (tokens : List Token) (missed : List Missed) (k : ℕ) (object : MadeObject) → PassesBut back table noted all made positions tokens missed → slice_get made k ≡ Some object → slice_get all k ≡ Some object
   kept_at made positions tokens missed k object h at_k =
       let r = prefix made positions tokens missed h in
       subst (λ xs. slice_get xs k ≡ Some object) r.1 (slice_get-append_left made r.0 k object at_k)
 
   -- From object `c` on, `n` objects without a type were created, and the remaining tokens follow.
-  pub record IsPassedOver (c n : ℕ) (positions : List Position) (rest : List Token) (missed : List Missed) : Type 0 where
-    pub after : List Made
+  pub record IsPassedOver (c n : ℕ) (positions : List OpenPosition) (rest : List Token) (missed : List Missed) : Type 0 where
+    pub after : List MadeObject
     pub many : length after ≡ c + n
     pub untyped : (o : ℕ) → c ≤ o → o < c + n → (trail : List (ℕ × ℕ)) × (slice_get all o ≡ Some record { type = None; trail = trail })
     pub passes : PassesBut back table noted all after positions rest missed
 
   -- If nothing is required of a token's fields, then each field of the token has a position at
   -- which nothing is required.
-  fields_next : (token : Token) (f : Forest) (made : List Made) (positions : List Position) (rest : List Token) (missed : List Missed) → PassesBut back table noted all made (unasked token ++ positions) (forest_tokens f ++ rest) missed → PassesBut back table noted all made (replicate (of_object fields (measure_of token)) nothing ++ positions) (forest_tokens f ++ rest) missed
+  fields_next : (token : Token) (f : Forest) (made : List MadeObject) (positions : List OpenPosition) (rest : List Token) (missed : List Missed) → PassesBut back table noted all made (unasked token ++ positions) (forest_tokens f ++ rest) missed → PassesBut back table noted all made (replicate (of_object fields (measure_of token)) nothing ++ positions) (forest_tokens f ++ rest) missed
   fields_next token f made positions rest missed h = subst (λ xs. PassesBut back table noted all made (xs ++ positions) (forest_tokens f ++ rest) missed) (unasked_are token) h
 
-  with_fields : (token : Token) (f : Forest) (trail : List (ℕ × ℕ)) (made : List Made) (positions : List Position) (rest : List Token) (missed : List Missed) → IsToken token → PassesBut back table noted all (made ++ made_in None trail token) (unasked token ++ positions) (forest_tokens f ++ rest) missed → IsPassedOver (length (made ++ made_in None trail token)) (all_made f) positions rest missed → IsPassedOver (length made) (made_by token + all_made f) positions rest missed
+  with_fields : (token : Token) (f : Forest) (trail : List (ℕ × ℕ)) (made : List MadeObject) (positions : List OpenPosition) (rest : List Token) (missed : List Missed) → IsToken token → PassesBut back table noted all (made ++ made_in None trail token) (unasked token ++ positions) (forest_tokens f ++ rest) missed → IsPassedOver (length (made ++ made_in None trail token)) (all_made f) positions rest missed → IsPassedOver (length made) (made_by token + all_made f) positions rest missed
   with_fields token f trail made positions rest missed is h r =
       let made' = made ++ made_in None trail token in
       let long = made_long None trail made token is in
@@ -99,7 +99,7 @@ module _ (back : List ℕ) (table : Table) (noted : List (ℕ × ℕ)) (all : Li
       }
 
   mutual
-    pub tree_over : (tree : Tree) (trail : List (ℕ × ℕ)) (made : List Made) (positions : List Position) (rest : List Token) (missed : List Missed) → IsTree tree → PassesBut back table noted all made (record { asks = None; trail = trail } ∷ positions) (tokens tree ++ rest) missed → IsPassedOver (length made) (made_of_tree tree) positions rest missed
+    pub tree_over : (tree : Tree) (trail : List (ℕ × ℕ)) (made : List MadeObject) (positions : List OpenPosition) (rest : List Token) (missed : List Missed) → IsTree tree → PassesBut back table noted all made (record { asks = None; trail = trail } ∷ positions) (tokens tree ++ rest) missed → IsPassedOver (length made) (made_of_tree tree) positions rest missed
     tree_over (node token f) trail made positions rest missed is (inl fits) = absurd (none-some fits.0 fits.1)
     tree_over (node token f) trail made positions rest missed is (inr (inl missing)) = absurd (none-some (of_type missing.0) missing.1)
     tree_over (node token f) trail made positions rest missed is (inr (inr (asks, h))) =
@@ -107,7 +107,7 @@ module _ (back : List ℕ) (table : Table) (noted : List (ℕ × ℕ)) (all : Li
         with_fields token f [] made positions rest missed is.0 h
         (forest_over f (of_object fields (measure_of token)) made' positions rest missed is.2 is.1 (fields_next token f made' positions rest missed h))
 
-    pub forest_over : (f : Forest) (n : ℕ) (made : List Made) (positions : List Position) (rest : List Token) (missed : List Missed) → AreTrees f → trees_in f ≡ n → PassesBut back table noted all made (replicate n nothing ++ positions) (forest_tokens f ++ rest) missed → IsPassedOver (length made) (all_made f) positions rest missed
+    pub forest_over : (f : Forest) (n : ℕ) (made : List MadeObject) (positions : List OpenPosition) (rest : List Token) (missed : List Missed) → AreTrees f → trees_in f ≡ n → PassesBut back table noted all made (replicate n nothing ++ positions) (forest_tokens f ++ rest) missed → IsPassedOver (length made) (all_made f) positions rest missed
     forest_over none zero made positions rest missed are many h = record {
       after = made;
       many = omega arith;
@@ -133,7 +133,7 @@ module _ (back : List ℕ) (table : Table) (noted : List (ℕ × ℕ)) (all : Li
 
   -- If nothing is required of a token, or the token mismatches, then the tree of the token is
   -- passed over.
-  pub after_token : (token : Token) (f : Forest) (trail : List (ℕ × ℕ)) (made : List Made) (positions : List Position) (rest : List Token) (missed : List Missed) → IsTree (node token f) → PassesBut back table noted all (made ++ made_in None trail token) (unasked token ++ positions) (forest_tokens f ++ rest) missed → IsPassedOver (length made) (made_by token + all_made f) positions rest missed
+  pub after_token : (token : Token) (f : Forest) (trail : List (ℕ × ℕ)) (made : List MadeObject) (positions : List OpenPosition) (rest : List Token) (missed : List Missed) → IsTree (node token f) → PassesBut back table noted all (made ++ made_in None trail token) (unasked token ++ positions) (forest_tokens f ++ rest) missed → IsPassedOver (length made) (made_by token + all_made f) positions rest missed
   after_token token f trail made positions rest missed is h =
       let made' = made ++ made_in None trail token in
       with_fields token f trail made positions rest missed is.0 h

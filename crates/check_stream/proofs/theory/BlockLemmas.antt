@@ -16,7 +16,7 @@ use Rattle.types_spec.specs.declared.types.shape.ShapeOf.TheVariants as shapes
 use Rattle.types_spec.specs.types.Fitting.{or_none, fields_if, constr_fields, block_fields, tag_fields, argument_field, is_asked}
 use Rattle.types_spec.specs.types.Table.{Table, is_asked_in}
 use Rattle.check_heap.proofs.scan.ScanLemmas.{pair_at}
-use Rattle.check_stream.specs.theory.Asked.{Need, of_type, hash_of, shape_at, needs_if, constr_needs, block_needs, values_in, IsWildcard, fields_ask}
+use Rattle.check_stream.specs.theory.AskedNeeds.{Need, of_type, hash_of, shape_at, needs_if, constr_needs, block_needs, values_in, IsWildcard, fields_ask}
 use Rattle.check_stream.specs.theory.Noted.{IsAt, AreAt}
 use Rattle.check_stream.proofs.theory.Kernel.{IsGood}
 

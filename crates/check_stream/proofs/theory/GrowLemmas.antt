@@ -13,9 +13,9 @@ use Rattle.marshal_spec.specs.format.Tree.{RefersBack, made_by}
 use Rattle.marshal_spec.specs.format.Encoded.{IsHeader, IsNoReference}
 use Rattle.marshal_spec.proofs.format.Counts.{objects-tokens-append, objects-tokens-cons}
 use Rattle.marshal_spec.proofs.format.References.{EachRefersBack-append}
-use Rattle.marshal_spec.proofs.format.ReadingLemmas.{concat-push, AllZip-push}
+use Rattle.marshal_spec.proofs.format.FormatReadingLemmas.{concat-push, AllZip-push}
 use Rattle.marshal_spec.proofs.format.EncodeValues.{IsToken-encoded}
-use Rattle.check_stream.specs.theory.Asked.{Need, of_type, hash_of, Asks, type_in}
+use Rattle.check_stream.specs.theory.AskedNeeds.{Need, of_type, hash_of, Asks, type_in}
 use Rattle.check_stream.specs.theory.OnePass.{start, further, IsPassing}
 use Rattle.check_stream.proofs.theory.PassLemmas.{leaf_made}
 

@@ -10,12 +10,12 @@ use Rattle.base_data.specs.declared.model.value.Val.{Val}
 use Rattle.base_data.specs.declared.model.value.Val.TheVariants as vals
 use Rattle.base_data.specs.declared.model.value.Obj.{Obj}
 use Rattle.types_spec.specs.types.Fitting.{fits_int, fits_atom, object_fields, or_none, numbered_from, none_if}
-use Rattle.types_spec.specs.types.Lawful.{AreLawful, Everything}
+use Rattle.types_spec.specs.types.LawfulShapes.{AreLawful, Everything}
 use Rattle.types_spec.specs.types.Table.{Table, table_shapes, is_asked_in}
 use Rattle.types_spec.specs.types.Typing.{values_of, IsHeld, IsTyping}
-use Rattle.types_spec.proofs.types.AskedLemmas.{need_typed}
+use Rattle.types_spec.proofs.types.TypeAskedLemmas.{need_typed}
 use Rattle.check_heap.proofs.scan.ScanLemmas.{pair_at, pair_there}
-use Rattle.check_stream.specs.theory.Asked.{shape_at}
+use Rattle.check_stream.specs.theory.AskedNeeds.{shape_at}
 use Rattle.check_stream.specs.theory.Noted.{IsAt}
 
 module _ (table : Table) (all : List ℕ) (noted : List (ℕ × ℕ)) where

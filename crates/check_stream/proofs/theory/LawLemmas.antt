@@ -15,14 +15,14 @@ use Rattle.marshal_spec.specs.format.Encoded.{States}
 use Rattle.marshal_spec.proofs.format.Parsed.{tree_from_tokens}
 use Rattle.marshal_spec.proofs.format.References.{ReferBack-from_each}
 use Rattle.marshal_spec.proofs.format.EncodeValues.{IsToken-all_encoded}
-use Rattle.check_stream.specs.theory.Asked.{of_type, shape_at, Passes}
+use Rattle.check_stream.specs.theory.AskedNeeds.{of_type, shape_at, Passes}
 use Rattle.check_stream.specs.theory.Noted.{IsFlatNoted}
-use Rattle.check_stream.specs.theory.OnePass.{IsPassing, Ends}
+use Rattle.check_stream.specs.theory.OnePass.{IsPassing, EndsPass}
 use Rattle.check_stream.specs.theory.Laws.{PassesTypePrefixes, NotedPassesTypePrefixes}
 use Rattle.check_stream.proofs.theory.Kernel.{AreNoted}
 use Rattle.check_stream.proofs.theory.OnePassLemmas.{passes_all, types_of_tree}
-use Rattle.check_stream.proofs.theory.EndLemmas.{passed_many, passed_open}
-use Rattle.check_stream.proofs.theory.FlatLemmas.{flat_object, flat_noted}
+use Rattle.check_stream.proofs.theory.OnePassEndLemmas.{passed_many, passed_open}
+use Rattle.check_stream.proofs.theory.OnePassFlatLemmas.{flat_object, flat_noted}
 
 are_noted : (table : Table) (all : List ℕ) (noted : List (ℕ × ℕ)) (tree : Tree) → IsTree tree → ((o t : ℕ) → Contains noted (o, t) → IsFlatNoted table all noted (tokens tree) o t) → AreNoted table (objects_of tree 0) all noted
 are_noted table all noted tree is each = record {
@@ -34,7 +34,7 @@ are_noted table all noted tree is each = record {
 }
 
 -- The header states the sizes of the tokens.
-states_from : (noted : List (ℕ × ℕ)) (table : Table) (limit : ℕ) (bytes : List ℕ) (head : Head) (start n : ℕ) (ts : List Token) (types : List ℕ) → IsPassing noted table limit bytes head start n ts types [] → Ends head start n ts types → States head ts
+states_from : (noted : List (ℕ × ℕ)) (table : Table) (limit : ℕ) (bytes : List ℕ) (head : Head) (start n : ℕ) (ts : List Token) (types : List ℕ) → IsPassing noted table limit bytes head start n ts types [] → EndsPass head start n ts types → States head ts
 states_from noted table limit bytes head start n ts types p ends = record {
   w32 = ends.w32;
   w64 = ends.w64;
@@ -42,7 +42,7 @@ states_from noted table limit bytes head start n ts types p ends = record {
 }
 
 -- The header states the length of the encoded tokens as the number of data bytes.
-data_length : (noted : List (ℕ × ℕ)) (table : Table) (limit : ℕ) (bytes : List ℕ) (head : Head) (start n : ℕ) (ts : List Token) (types : List ℕ) → (p : IsPassing noted table limit bytes head start n ts types []) → Ends head start n ts types
+data_length : (noted : List (ℕ × ℕ)) (table : Table) (limit : ℕ) (bytes : List ℕ) (head : Head) (start n : ℕ) (ts : List Token) (types : List ℕ) → (p : IsPassing noted table limit bytes head start n ts types []) → EndsPass head start n ts types
     → head.length ≡ length (concat p.chunks)
 data_length noted table limit bytes head start n ts types p ends =
     let prefix = length-take-le n bytes p.within in

@@ -6,15 +6,15 @@ use Rattle.std.proofs.lemmas.List.{append_assoc, append-nil}
 use Rattle.std.proofs.lemmas.List.Elements.{Contains-append_left}
 use Rattle.base_data.specs.declared.model.value.Val.TheVariants as vals
 use Rattle.types_spec.specs.types.Fitting.{numbered_from, fits_int, fits_atom}
-use Rattle.types_spec.specs.types.Lawful.{AreLawful, Everything}
+use Rattle.types_spec.specs.types.LawfulShapes.{AreLawful, Everything}
 use Rattle.types_spec.specs.types.Table.{Table, table_shapes}
 use Rattle.types_spec.specs.types.Typing.{IsTyped, IsTyping}
 use Rattle.marshal_spec.specs.format.Token.{Token, integer, atom, shared, block, leaf}
 use Rattle.marshal_spec.specs.format.Tree.{Tree, node, IsTree, tokens, forest_tokens, root, objects_of, ReferBack}
 use Rattle.marshal_spec.proofs.format.Counts.{length-objects_of}
 use Rattle.check_heap.proofs.scan.ScanLemmas.{pair_there}
-use Rattle.check_stream.specs.theory.Asked.{Need, of_type, shape_at, Passes}
-use Rattle.check_stream.specs.theory.OnePass.{AreTypesOf, Passed, start, further}
+use Rattle.check_stream.specs.theory.AskedNeeds.{Need, of_type, shape_at, Passes}
+use Rattle.check_stream.specs.theory.OnePass.{AreTypesOf, PassedTokens, start, further}
 use Rattle.check_stream.proofs.theory.Kernel.{AreNoted, some_if, is_typing, object_fits}
 use Rattle.check_stream.proofs.theory.PassLemmas.{last_at, tree_read}
 
@@ -57,11 +57,11 @@ module _ (table : Table) (all : List ℕ) (noted : List (ℕ × ℕ)) where
 
 -- ---- token by token
 
-passes_later : (noted : List (ℕ × ℕ)) (table : Table) (prefix rest : List Token) (types : List ℕ) (needs : List Need) (all : List ℕ) → Passed noted table prefix types needs → Passes noted table types needs rest all → Passes noted table [] (of_type 0 ∷ []) (prefix ++ rest) all
+passes_later : (noted : List (ℕ × ℕ)) (table : Table) (prefix rest : List Token) (types : List ℕ) (needs : List Need) (all : List ℕ) → PassedTokens noted table prefix types needs → Passes noted table types needs rest all → Passes noted table [] (of_type 0 ∷ []) (prefix ++ rest) all
 passes_later noted table prefix rest types needs all start h = h
 passes_later noted table prefix rest types needs all (further tokens types' need needs' next token before asks) h =
     subst (λ ts. Passes noted table [] (of_type 0 ∷ []) ts all) (sym (append_assoc tokens (token ∷ []) rest))
     (passes_later noted table tokens (token ∷ rest) types' (need ∷ needs') all before (next, asks, h))
 
-pub passes_all : (noted : List (ℕ × ℕ)) (table : Table) (ts : List Token) (types : List ℕ) → Passed noted table ts types [] → Passes noted table [] (of_type 0 ∷ []) ts types
+pub passes_all : (noted : List (ℕ × ℕ)) (table : Table) (ts : List Token) (types : List ℕ) → PassedTokens noted table ts types [] → Passes noted table [] (of_type 0 ∷ []) ts types
 passes_all noted table ts types passed = subst (λ xs. Passes noted table [] (of_type 0 ∷ []) xs types) (append-nil ts) (passes_later noted table ts [] types [] types passed refl)

@@ -13,7 +13,7 @@ use Rattle.marshal_spec.specs.format.Words.{of_object}
 use Rattle.marshal_spec.specs.format.Token.{Token, integer, atom, shared, block, leaf, IsLeaf, leaf_measure}
 use Rattle.marshal_spec.specs.format.Tree.{Tree, Forest, node, none, more, trees_in, IsTree, AreTrees, tokens, forest_tokens, root, roots, made, all_made, objects_of, all_objects}
 use Rattle.marshal_spec.proofs.format.Counts.{leaf_fields, length-roots, length-objects_of}
-use Rattle.check_stream.specs.theory.Asked.{Need, of_type, hash_of, shape_at, type_in, Passes, values_in, fields_ask}
+use Rattle.check_stream.specs.theory.AskedNeeds.{Need, of_type, hash_of, shape_at, type_in, Passes, values_in, fields_ask}
 use Rattle.check_stream.specs.theory.Noted.{IsAt, AreAt}
 use Rattle.check_stream.proofs.theory.Kernel.{IsGood, AreGood, good_append}
 use Rattle.check_stream.proofs.theory.BlockLemmas.{fields_many, asked_good}

@@ -8,7 +8,7 @@ use Rattle.marshal_spec.specs.format.Words.{objects}
 use Rattle.marshal_spec.specs.format.Token.{Token, shared, block, IsToken}
 use Rattle.marshal_spec.specs.format.Token.{Encodes}
 use Rattle.marshal_spec.specs.format.Token.{measure_of}
-use Rattle.check_stream.specs.theory.Asked.{of_type, IsBackAt}
+use Rattle.check_stream.specs.theory.AskedNeeds.{of_type, IsBackAt}
 use Rattle.check_stream.specs.theory.Noted.{AreAt, AreFlat, flat_values, IsFlatNoted}
 use Rattle.marshal_codec.specs.declared.token.summary.Summary.{Summary}
 use Rattle.marshal_codec.specs.declared.token.summary.Summary.TheVariants as summaries

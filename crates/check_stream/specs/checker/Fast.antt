@@ -5,7 +5,7 @@ use Rattle.base_data.specs.declared.model.code.Measure.{Measure}
 use Rattle.marshal_spec.specs.format.Words.{words32, words64}
 use Rattle.check_stream.specs.declared.checker.open_positions.BlockPositions.{BlockPositions}
 use Rattle.check_stream.specs.declared.checker.check_state.CheckState.{CheckState}
-use Rattle.check_stream.specs.declared.checker.words.Words.{Words}
+use Rattle.check_stream.specs.declared.checker.stated_words.Words.{Words}
 
 -- The state of the pass with these open positions, types and remaining words.
 abbrev pub held : BlockPositions → Vec BlockPositions → Vec ℕ → Words → CheckState

@@ -5,7 +5,7 @@ use Rattle.base_data.specs.declared.model.value.Val.{Val}
 use Rattle.base_data.specs.declared.model.value.Val.TheVariants as vals
 use Rattle.base_data.specs.declared.model.value.Obj.{Obj}
 use Rattle.types_spec.specs.declared.types.fault.Fault.TheVariants.{Mismatch}
-use Rattle.types_spec.specs.types.Lawful.{AreLawful, Everything}
+use Rattle.types_spec.specs.types.LawfulShapes.{AreLawful, Everything}
 use Rattle.types_spec.specs.types.Fault.{step, value_at, IsMismatch}
 use Rattle.types_spec.specs.types.LeastFault.{IsLeastFault}
 use Rattle.types_spec.specs.types.Table.{Table, table_shapes}

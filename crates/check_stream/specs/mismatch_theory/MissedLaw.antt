@@ -5,14 +5,14 @@ use Rattle.base_data.specs.declared.model.value.Val.TheVariants as vals
 use Rattle.base_data.specs.declared.model.value.Obj.{Obj}
 use Rattle.base_data.specs.declared.model.value.Obj.TheVariants as objects
 use Rattle.types_spec.specs.declared.types.fault.Fault.TheVariants.{Mismatch}
-use Rattle.types_spec.specs.types.Lawful.{AreLawful, Everything}
+use Rattle.types_spec.specs.types.LawfulShapes.{AreLawful, Everything}
 use Rattle.types_spec.specs.types.Fault.{value_at}
 use Rattle.types_spec.specs.types.LeastFault.{IsLeastFault}
 use Rattle.types_spec.specs.types.Table.{Table, table_shapes}
 use Rattle.marshal_spec.specs.format.Token.{Token, integer, atom, shared, block, leaf}
 use Rattle.marshal_spec.specs.format.Tree.{Tree, IsTree, tokens, root, objects_of}
 use Rattle.check_stream.specs.mismatch_theory.OnlyWay.{path_of}
-use Rattle.check_stream.specs.mismatch_theory.PassedBut.{Made, Missed, PassedBut}
+use Rattle.check_stream.specs.mismatch_theory.PassedBut.{MadeObject, Missed, PassedBut}
 
 -- The token encodes the value `w` of the graph.
 abbrev pub IsEncodedBy : List Obj → Val → Token → Type 0
@@ -40,7 +40,7 @@ pub record IsLeastMissed (table : Table) (graph : List Obj) (root : Val) (missed
 abbrev pub OnlyMissedIsLeast : Type 0
 OnlyMissedIsLeast =
     (table : Table) → AreLawful (table_shapes table) Everything
-    → (back : List ℕ) (tree : Tree) (made : List Made) (missed : Missed) → IsTree tree
+    → (back : List ℕ) (tree : Tree) (made : List MadeObject) (missed : Missed) → IsTree tree
     → PassedBut back table (tokens tree) made [] (missed ∷ [])
     → All (λ (link : ℕ × ℕ). ¬ Contains back link.0) missed.trail
     → IsLeastMissed table (objects_of tree 0) (root tree 0) missed

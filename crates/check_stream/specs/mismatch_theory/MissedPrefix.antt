@@ -4,7 +4,7 @@ use Rattle.std.specs.Prelude.{ℕ, ◌+◌, ◌≤◌, ◌<◌, ◌^◌, ◌≡�
 use Rattle.std.specs.Prelude.{List, [], ◌∷◌, ◌++◌, length, map, take, All, Contains}
 use Rattle.std.specs.List.{concat, AllZip}
 use Rattle.base_data.specs.declared.model.header.Head.{Head}
-use Rattle.types_spec.specs.types.Lawful.{AreLawful, Everything}
+use Rattle.types_spec.specs.types.LawfulShapes.{AreLawful, Everything}
 use Rattle.types_spec.specs.types.Table.{Table, table_shapes}
 use Rattle.marshal_spec.specs.format.Words.{objects, all_words32, all_words64}
 use Rattle.marshal_spec.specs.format.Header.{head_of}
@@ -13,7 +13,8 @@ use Rattle.marshal_spec.specs.format.Tree.{Tree, root, objects_of}
 use Rattle.marshal_spec.specs.format.Preorder.{EachRefersBack}
 use Rattle.marshal_spec.specs.format.Encoded.{EncodedUnder, IsHeader, IsNoReference, StatesWords32}
 use Rattle.check_stream.specs.mismatch_theory.MissedLaw.{IsLeastMissed}
-use Rattle.check_stream.specs.mismatch_theory.PassedBut.{Position, Made, Missed, PassedBut}
+use Rattle.check_stream.specs.mismatch_theory.PassedBut.{OpenPosition, MadeObject, Missed}
+use Rattle.check_stream.specs.mismatch_theory.PassedBut.{PassedBut}
 
 -- The first `n` bytes encode a value within the limit, and `missed` is the value's first fault at
 -- type 0 of the table.
@@ -28,7 +29,8 @@ pub record IsMissedPrefix (table : Table) (limit n : ℕ) (bytes : List ℕ) (mi
 -- encodings of the tokens. The tokens lead to these objects, open positions and mismatches.
 pub record IsPassingBut
     (back : List ℕ) (table : Table) (limit : ℕ) (bytes : List ℕ) (head : Head) (start n : ℕ)
-    (tokens : List Token) (made : List Made) (positions : List Position) (missed : List Missed)
+    (tokens : List Token) (made : List MadeObject) (positions : List OpenPosition)
+    (missed : List Missed)
     : Type 0 where
   pub header : List ℕ
   pub chunks : List (List ℕ)
@@ -61,7 +63,8 @@ pub record IsStated (head : Head) (start n : ℕ) (tokens : List Token) (many : 
 abbrev pub OneMissedPrefixes : Type 0
 OneMissedPrefixes =
     (table : Table) (limit : ℕ) (bytes : List ℕ) (head : Head) (start n : ℕ) (tokens : List Token)
-    (back : List ℕ) (made : List Made) (missed : Missed) → AreLawful (table_shapes table) Everything
+    (back : List ℕ) (made : List MadeObject) (missed : Missed)
+    → AreLawful (table_shapes table) Everything
     → IsPassingBut back table limit bytes head start n tokens made [] (missed ∷ [])
     → IsStated head start n tokens (length made)
     → All (λ (link : ℕ × ℕ). ¬ Contains back link.0) missed.trail

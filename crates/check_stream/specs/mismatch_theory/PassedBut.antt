@@ -8,14 +8,15 @@ use Rattle.types_spec.specs.declared.types.shape.PolyTag.{PolyTag}
 use Rattle.types_spec.specs.types.Fitting.{tag_with, fits_int, fits_atom, object_fields}
 use Rattle.types_spec.specs.types.Table.{Table, table_shapes}
 use Rattle.marshal_spec.specs.format.Token.{Token, integer, atom, shared, block, leaf}
-use Rattle.check_stream.specs.theory.Asked.{Need, of_type, hash_of, values_in, shape_at, IsWildcard}
-use Rattle.check_stream.specs.theory.Asked.{fields_ask}
+use Rattle.check_stream.specs.theory.AskedNeeds.{Need, of_type, hash_of, values_in, shape_at}
+use Rattle.check_stream.specs.theory.AskedNeeds.{IsWildcard}
+use Rattle.check_stream.specs.theory.AskedNeeds.{fields_ask}
 use Rattle.check_stream.specs.theory.Noted.{IsFlatNoted}
 
 -- An open position, with its requirement and its trail. Below a mismatch, the requirement is
 -- `None`. The trail begins with the object and the field at the position. The trail of the root is
 -- empty.
-pub record Position : Type 0 where
+pub record OpenPosition : Type 0 where
   pub asks : Option Need
   pub trail : List (ℕ × ℕ)
 
@@ -25,13 +26,13 @@ abbrev pub values_of : Option Need → ℕ
 values_of None = 1
 values_of (Some need) = values_in (need ∷ [])
 
-abbrev pub values_at : List Position → ℕ
+abbrev pub values_at : List OpenPosition → ℕ
 values_at [] = 0
 values_at (position ∷ positions) = values_of position.asks + values_at positions
 
 -- An object, with the type that its position requires and the trail of its position. At or below a
 -- mismatch, the type is `None`.
-pub record Made : Type 0 where
+pub record MadeObject : Type 0 where
   pub type : Option ℕ
   pub trail : List (ℕ × ℕ)
 
@@ -44,7 +45,7 @@ pub record Missed : Type 0 where
 
 -- The positions of an object's fields from field `k` on. A requirement for a hash covers two
 -- fields.
-abbrev pub positions_of : ℕ → List (ℕ × ℕ) → ℕ → List Need → List Position
+abbrev pub positions_of : ℕ → List (ℕ × ℕ) → ℕ → List Need → List OpenPosition
 positions_of o trail k [] = []
 positions_of o trail k (need ∷ needs) =
     record { asks = Some need; trail = (o, k) ∷ trail }
@@ -56,7 +57,7 @@ field_after [] = []
 field_after (link ∷ trail) = (link.0, suc link.1) ∷ trail
 
 -- The positions of a token's fields if nothing is required of the fields.
-abbrev pub unasked : Token → List Position
+abbrev pub unasked : Token → List OpenPosition
 unasked (integer z) = []
 unasked (atom tag) = []
 unasked (shared offset) = []
@@ -65,7 +66,7 @@ unasked (leaf object) = []
 
 -- The list with the object that a token creates at a position. If the token creates no object, the
 -- list is empty.
-abbrev pub made_in : Option ℕ → List (ℕ × ℕ) → Token → List Made
+abbrev pub made_in : Option ℕ → List (ℕ × ℕ) → Token → List MadeObject
 made_in type trail (integer z) = []
 made_in type trail (atom tag) = []
 made_in type trail (shared offset) = []
@@ -84,7 +85,7 @@ abbrev pub IsPlain : Table → List Token → ℕ → ℕ → Type 0
 IsPlain table tokens o t = IsFlatNoted table [] [] tokens o t
 
 -- The type that the object's first position required equals `t`.
-pub record HasFirst (table : Table) (made : List Made) (o t : ℕ) : Type 0 where
+pub record HasFirst (table : Table) (made : List MadeObject) (o t : ℕ) : Type 0 where
   pub type : ℕ
   pub trail : List (ℕ × ℕ)
   pub at : slice_get made o ≡ Some record { type = Some type; trail = trail }
@@ -93,7 +94,8 @@ pub record HasFirst (table : Table) (made : List Made) (o t : ℕ) : Type 0 wher
 -- A reference leads back to an object whose first type or second type is `t`. The object is
 -- recorded in `back`.
 pub record IsLedBack
-    (back : List ℕ) (table : Table) (Second : ℕ → ℕ → Type 0) (made : List Made) (t offset : ℕ)
+    (back : List ℕ) (table : Table) (Second : ℕ → ℕ → Type 0) (made : List MadeObject)
+    (t offset : ℕ)
     : Type 0 where
   pub some : 1 ≤ offset
   pub few : offset ≤ length made
@@ -102,7 +104,7 @@ pub record IsLedBack
 
 -- The tag with this hash has an argument, and `next` is the position of the argument.
 pub record IsTaggedBut (tags : List (PolyTag ℕ)) (z : ℤ) (trail : List (ℕ × ℕ))
-    (next : List Position)
+    (next : List OpenPosition)
     : Type 0 where
   pub tag : PolyTag ℕ
   pub has_hash : tag_with tags z ≡ Some tag
@@ -113,7 +115,8 @@ pub record IsTaggedBut (tags : List (PolyTag ℕ)) (z : ℤ) (trail : List (ℕ 
 -- The token satisfies the requirement of its position, given the second types of objects, and opens
 -- the positions `next`.
 abbrev pub Takes :
-    List ℕ → Table → (ℕ → ℕ → Type 0) → List Made → List (ℕ × ℕ) → Need → Token → List Position
+    List ℕ → Table → (ℕ → ℕ → Type 0) → List MadeObject → List (ℕ × ℕ) → Need → Token
+    → List OpenPosition
     → Type 0
 Takes back table Second made trail (of_type t) (integer z) next =
     IsTrue (fits_int (shape_at table t) z) × (next ≡ [])
@@ -145,20 +148,20 @@ Misses table t (leaf object) = object_fields (shape_at table t) object ≡ None
 -- which references lead back, from positions with a requirement, are recorded in `back`.
 pub data PassedBut
     (back : List ℕ) (table : Table)
-    : List Token → List Made → List Position → List Missed → Type 0 where
+    : List Token → List MadeObject → List OpenPosition → List Missed → Type 0 where
   begin :
       PassedBut back table [] [] (record { asks = Some (of_type 0); trail = [] } ∷ []) []
   fitting :
-      (tokens : List Token) (made : List Made) (need : Need) (trail : List (ℕ × ℕ))
-      (positions next : List Position) (missed : List Missed) (token : Token)
+      (tokens : List Token) (made : List MadeObject) (need : Need) (trail : List (ℕ × ℕ))
+      (positions next : List OpenPosition) (missed : List Missed) (token : Token)
       → PassedBut back table tokens made (record { asks = Some need; trail = trail } ∷ positions)
       missed
       → Takes back table (IsPlain table tokens) made trail need token next
       → PassedBut back table (tokens ++ token ∷ [])
       (made ++ made_in (type_of_need need) trail token) (next ++ positions) missed
   missing :
-      (tokens : List Token) (made : List Made) (t : ℕ) (trail : List (ℕ × ℕ))
-      (positions : List Position) (missed : List Missed) (token : Token)
+      (tokens : List Token) (made : List MadeObject) (t : ℕ) (trail : List (ℕ × ℕ))
+      (positions : List OpenPosition) (missed : List Missed) (token : Token)
       → PassedBut back table tokens made
       (record { asks = Some (of_type t); trail = trail } ∷ positions) missed
       → Misses table t token
@@ -166,7 +169,8 @@ pub data PassedBut
       (unasked token ++ positions)
       (missed ++ record { trail = trail; type = t; token = token } ∷ [])
   below :
-      (tokens : List Token) (made : List Made) (trail : List (ℕ × ℕ)) (positions : List Position)
+      (tokens : List Token) (made : List MadeObject) (trail : List (ℕ × ℕ))
+      (positions : List OpenPosition)
       (missed : List Missed) (token : Token)
       → PassedBut back table tokens made (record { asks = None; trail = trail } ∷ positions) missed
       → PassedBut back table (tokens ++ token ∷ []) (made ++ made_in None [] token)

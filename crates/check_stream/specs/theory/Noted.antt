@@ -11,8 +11,8 @@ use Rattle.types_spec.specs.types.Fitting.{tag_with, fits_int, fits_atom, is_mut
 use Rattle.types_spec.specs.types.Table.{Table, table_shapes}
 use Rattle.marshal_spec.specs.format.Token.{Token, integer, atom, shared, block, leaf}
 use Rattle.marshal_spec.specs.format.Tree.{made_by, value_of}
-use Rattle.check_stream.specs.theory.Asked.{Need, of_type, hash_of, shape_at, block_needs}
-use Rattle.check_stream.specs.theory.Asked.{IsWildcard}
+use Rattle.check_stream.specs.theory.AskedNeeds.{Need, of_type, hash_of, shape_at, block_needs}
+use Rattle.check_stream.specs.theory.AskedNeeds.{IsWildcard}
 
 module _ (table : Table) (all : List ℕ) (noted : List (ℕ × ℕ)) where
   -- A value satisfies the requirement of a position of the type, given the types of all objects.

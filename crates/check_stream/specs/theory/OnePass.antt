@@ -12,7 +12,7 @@ use Rattle.marshal_spec.specs.format.Token.{Token, Encodes, measure_of}
 use Rattle.marshal_spec.specs.format.Tree.{Tree, root, objects_of}
 use Rattle.marshal_spec.specs.format.Preorder.{EachRefersBack}
 use Rattle.marshal_spec.specs.format.Encoded.{EncodedUnder, IsHeader, IsNoReference, StatesWords32}
-use Rattle.check_stream.specs.theory.Asked.{Need, of_type, Asks, type_in}
+use Rattle.check_stream.specs.theory.AskedNeeds.{Need, of_type, Asks, type_in}
 
 -- The first `n` bytes encode a value within the limit, and the value has type 0 of the table.
 pub record IsTypedPrefix (table : Table) (limit n : ℕ) (bytes : List ℕ) : Type 0 where
@@ -30,14 +30,16 @@ pub record AreTypesOf
   pub typed : HasType (table_shapes table) (objects_of tree 0) (root tree 0) 0
 
 -- From the start, the tokens lead to objects of these types and to these open positions.
-pub data Passed
+pub data PassedTokens
     (noted : List (ℕ × ℕ)) (table : Table)
     : List Token → List ℕ → List Need → Type 0 where
-  start : Passed noted table [] [] (of_type 0 ∷ [])
+  start : PassedTokens noted table [] [] (of_type 0 ∷ [])
   further :
       (tokens : List Token) (types : List ℕ) (need : Need) (needs next : List Need) (token : Token)
-      → Passed noted table tokens types (need ∷ needs) → Asks noted table types need token next
-      → Passed noted table (tokens ++ token ∷ []) (types ++ type_in need token) (next ++ needs)
+      → PassedTokens noted table tokens types (need ∷ needs)
+      → Asks noted table types need token next
+      → PassedTokens noted table (tokens ++ token ∷ []) (types ++ type_in need token)
+      (next ++ needs)
 
 -- The invariant of the pass. The first `n` bytes are a header, of `start` bytes, and the encodings
 -- of the tokens. The objects so far have the types `types`, and the open positions have the
@@ -57,13 +59,14 @@ pub record IsPassing
   pub refer_back : EachRefersBack 0 tokens
   pub made : objects (map measure_of tokens) ≡ length types
   pub unshared : head.objects ≡ 0 → All IsNoReference tokens
-  pub passed : Passed noted table tokens types needs
+  pub passed : PassedTokens noted table tokens types needs
   pub words : head.w64 ≤ limit
   pub small : head.length < 2 ^ 48
 
 -- The header states the number of data bytes that were read, and the sizes in words. The header
 -- also states the number of objects, or states 0 objects.
-pub record Ends (head : Head) (start n : ℕ) (tokens : List Token) (types : List ℕ) : Type 0 where
+pub record EndsPass (head : Head) (start n : ℕ) (tokens : List Token)
+    (types : List ℕ) : Type 0 where
   pub whole : n ≡ start + head.length
   pub w32 : StatesWords32 head.big head.w32 (all_words32 (map measure_of tokens))
   pub w64 : head.w64 ≡ all_words64 (map measure_of tokens)

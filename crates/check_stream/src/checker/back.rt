@@ -2,14 +2,14 @@
 
 ghost use Rattle.std.specs.Prelude.{◌≤◌, ◌<◌, length, take, drop, IfOk, OnOk};
 ghost use Rattle.types_table.specs.type_table.Made.{table_of};
-ghost use Rattle.check_stream.specs.checker.Positions.{need_of};
-ghost use Rattle.check_stream.specs.checker.State.{types_in, IsMarked, TookBack, TookTurn};
+ghost use Rattle.check_stream.specs.checker.OpenPositions.{need_of};
+ghost use Rattle.check_stream.specs.checker.CheckerState.{types_in, IsMarked, TookBack, TookTurn};
 
-use crate::checker::again::reference_at;
 use crate::checker::check_state::CheckState;
-use crate::checker::flat::is_known;
+use crate::checker::checker_step::{TokenResult, step};
+use crate::checker::flat_blocks::is_known;
 use crate::checker::open_positions::Requirement;
-use crate::checker::step::{TokenResult, step};
+use crate::checker::reread::reference_at;
 use base_data::model::Memory;
 use types_table::type_table::TypeTable;
 

@@ -7,18 +7,18 @@ ghost use Rattle.base_data.specs.declared.model.value.Obj.TheVariants as objects
 ghost use Rattle.types_table.specs.type_table.Made.{table_of};
 ghost use Rattle.marshal_spec.specs.format.Token.{integer, atom, block, leaf};
 ghost use Rattle.marshal_codec.specs.headers.Counting.{IsCountable};
-ghost use Rattle.check_stream.specs.theory.Asked.{hash_of};
-ghost use Rattle.check_stream.specs.checker.Positions.{need_of};
-ghost use Rattle.check_stream.specs.checker.State.{Took, TookLeaf, IfTook};
+ghost use Rattle.check_stream.specs.theory.AskedNeeds.{hash_of};
+ghost use Rattle.check_stream.specs.checker.OpenPositions.{need_of};
+ghost use Rattle.check_stream.specs.checker.CheckerState.{Took, TookLeaf, IfTook};
 ghost use Rattle.marshal_codec.specs.token.Summary.{custom_leaf};
 
-use crate::checker::fits::{positions_at, shape_of};
 use crate::checker::open_positions::{BlockPositions, OpenPositions, Requirement};
-use crate::checker::words::Words;
+use crate::checker::stated_words::Words;
+use crate::checker::token_fits::{positions_at, shape_of};
 use base_data::model::Memory;
 use base_data::model::code::{CustomKind, Measure};
 use types_spec::types::shape::{PolyTag, ShapeOf};
-use types_table::fits::{fits_atom, fits_doubles, fits_int, tag_of_hash};
+use types_table::leaf_fits::{fits_atom, fits_doubles, fits_int, tag_of_hash};
 use types_table::type_table::TypeTable;
 
 /// The open positions, the types of the objects so far, and the words that the header states for

@@ -12,24 +12,24 @@ ghost use Rattle.marshal_spec.specs.format.Raw.{fixed_bytes, variable_bytes};
 ghost use Rattle.marshal_spec.specs.format.Token.{block, leaf, word_token};
 ghost use Rattle.marshal_codec.specs.headers.Counting.{IsCountable};
 ghost use Rattle.types_table.specs.type_table.Made.{table_of};
-ghost use Rattle.check_stream.specs.theory.Asked.{of_type, shape_at, IsBackAt};
-ghost use Rattle.check_stream.specs.checker.State.{Took, TookChunk, TookPrefix, TookFirst};
+ghost use Rattle.check_stream.specs.theory.AskedNeeds.{of_type, shape_at, IsBackAt};
+ghost use Rattle.check_stream.specs.checker.CheckerState.{Took, TookChunk, TookPrefix, TookFirst};
 ghost use Rattle.std.specs.Global.{Vec};
 ghost use Rattle.check_stream.specs.declared.checker.open_positions.BlockPositions.{BlockPositions};
 ghost use Rattle.check_stream.specs.checker.Fast.{held, IsLeafAdded};
-ghost use Rattle.check_stream.specs.checker.Positions.{open_needs, need_of, waiting_needs};
+ghost use Rattle.check_stream.specs.checker.OpenPositions.{open_needs, need_of, waiting_needs};
 ghost use Rattle.check_stream.specs.declared.checker.open_positions.BlockPositions.TheVariants as
     opens;
 
-use crate::checker::fits::{
+use crate::checker::open_positions::{BlockPositions, Requirement, is_done};
+use crate::checker::stated_words::Words;
+use crate::checker::token_fits::{
     fast_positions, fits_fast_int, is_equal, is_wildcard, shape_of, type_at,
 };
-use crate::checker::open_positions::{BlockPositions, Requirement, is_done};
-use crate::checker::words::Words;
 use base_data::model::code::{CodeKind, Measure};
 use marshal_codec::token::{chunk_len, number_of, signed_of};
 use types_spec::types::shape::ShapeOf;
-use types_table::fits::fits_atom;
+use types_table::leaf_fits::fits_atom;
 use types_table::type_table::TypeTable;
 
 /// Returns true if the type of one more object can be stored without allocation, and no mark is
@@ -45,7 +45,7 @@ fn has_room(types: &Vec<u16>, ty: usize) -> bool
 }
 
 /// Pushes the open positions on the stack if there are any. Returns false if the stack is full.
-#[tactic(auto, using(crate::proofs::checker::PositionLemmas::waiting_needs_push))]
+#[tactic(auto, using(crate::proofs::checker::CheckerPositionLemmas::waiting_needs_push))]
 #[inline(always)]
 fn keep_reserved<'a>(waiting: &mut Vec<BlockPositions<'a>>, others: BlockPositions<'a>) -> bool
     ensures added { IsTrue result

@@ -2,9 +2,9 @@
 
 ghost use Rattle.std.specs.Prelude.{◌≡◌, ◌≤◌, ◌∷◌, ◌++◌, [], MatchOption, OnOk};
 ghost use Rattle.std.specs.Bool.{OnTrue};
-ghost use Rattle.check_stream.specs.theory.Asked.{of_type, values_in};
-ghost use Rattle.check_stream.specs.checker.Positions.{open_needs, need_of, waiting_needs};
-ghost use Rattle.check_stream.specs.checker.Positions.{positions_needs};
+ghost use Rattle.check_stream.specs.theory.AskedNeeds.{of_type, values_in};
+ghost use Rattle.check_stream.specs.checker.OpenPositions.{open_needs, need_of, waiting_needs};
+ghost use Rattle.check_stream.specs.checker.OpenPositions.{positions_needs};
 
 use base_data::model::Memory;
 use std::alloc::Global;
@@ -130,7 +130,7 @@ impl<'a> OpenPositions<'a> {
     }
 
     /// If the innermost block has open positions, pushes the open positions on the stack.
-    #[tactic(auto, using(crate::proofs::checker::PositionLemmas::waiting_needs_push))]
+    #[tactic(auto, using(crate::proofs::checker::CheckerPositionLemmas::waiting_needs_push))]
     #[inline(always)]
     fn keep(&mut self) -> Result<(), Memory>
         ensures { OnOk result (waiting_needs self.new.waiting.items ≡ positions_needs self.old) }
@@ -155,7 +155,7 @@ impl<'a> OpenPositions<'a> {
 }
 
 /// Returns the open positions of the innermost block that has any.
-#[tactic(auto, using(crate::proofs::checker::PositionLemmas::waiting_needs_push))]
+#[tactic(auto, using(crate::proofs::checker::CheckerPositionLemmas::waiting_needs_push))]
 #[inline(always)]
 pub fn innermost<'a>(
     now: BlockPositions<'a>,
@@ -194,7 +194,7 @@ pub fn first_position<'a>(
 /// Returns the requirement of the first open position on the stack, and the remaining open
 /// positions of the position's block. The caller guarantees that the innermost block has no open
 /// position.
-#[tactic(auto, using(crate::proofs::checker::PositionLemmas::waiting_needs_push))]
+#[tactic(auto, using(crate::proofs::checker::CheckerPositionLemmas::waiting_needs_push))]
 #[inline(always)]
 fn first_waiting<'a>(
     waiting: &mut Vec<BlockPositions<'a>>,

@@ -6,8 +6,8 @@ ghost use Rattle.check_stream.specs.theory.OnePass.{IsTypedPrefix};
 
 use crate::checker::check_state::CheckState;
 use crate::checker::open_positions::OpenPositions;
+use crate::checker::stated_words::Words;
 use crate::checker::whole::{PassStop, head_of, run};
-use crate::checker::words::Words;
 use base_data::model::Memory;
 use base_data::model::header::Head;
 use std::alloc::Global;
@@ -40,7 +40,7 @@ fn room_for(head: &Head, bytes: usize) -> usize {
 impl<'a> Passing<'a> {
     ghost use Rattle.std.specs.Bool.{OnTrue};
     ghost use Rattle.types_spec.specs.types.Table.{Table};
-    ghost use Rattle.check_stream.specs.checker.State.{IsUnderway, Stops};
+    ghost use Rattle.check_stream.specs.checker.CheckerState.{IsUnderway, Stops};
 
     /// Returns a check that has not begun, without allocating memory.
     pub fn new(alloc: Global) -> Passing<'a> {

@@ -2,13 +2,13 @@
 
 ghost use Rattle.std.specs.Prelude.{◌≡◌, ◌∷◌, [], IfOk, IfSome};
 ghost use Rattle.types_table.specs.type_table.Made.{table_of};
-ghost use Rattle.check_stream.specs.checker.Positions.{need_of, open_needs};
-ghost use Rattle.check_stream.specs.checker.State.{Leads, BeginsAs, StopsAt};
+ghost use Rattle.check_stream.specs.checker.OpenPositions.{need_of, open_needs};
+ghost use Rattle.check_stream.specs.checker.CheckerState.{LeadsPass, BeginsAs, StopsAt};
 
 use crate::checker::back::{mark, turn};
 use crate::checker::check_state::CheckState;
 use crate::checker::fast::fast;
-use crate::checker::listed::take_listed;
+use crate::checker::listed_tokens::take_listed;
 use crate::checker::open_positions::{BlockPositions, Requirement, first_position};
 use base_data::model::Memory;
 use base_data::model::header::Head;
@@ -78,7 +78,7 @@ pub fn run<'a>(
     left: &mut u64,
     bytes: &[u8],
 ) -> Result<PassStop, Memory>
-    requires leads { Leads (table_of table.now) limit bytes.now head.now start first
+    requires leads { LeadsPass (table_of table.now) limit bytes.now head.now start first
         marks.old.items notes.old.items state.old }
     ensures { IfOk result
         (StopsAt (table_of table.now) limit bytes.now head.now start marks.new.items

@@ -14,9 +14,9 @@ use Rattle.marshal_spec.proofs.canonical.TreeGraphs.{own_tree}
 use Rattle.marshal_spec.proofs.canonical.Walk.{numbering}
 use Rattle.marshal_write.proofs.write.BoundLemmas.{few_objects}
 use Rattle.types_lex.specs.declared.lexeme.Lexeme.{Lexeme}
-use Rattle.text_literal.specs.grammar.Literal.{Literal, labelled, again, Plain, integer, character, string, double, truth, unit, constant, applied, fields, tuple, empty_array, array, literal_kinds}
-use Rattle.text_literal.specs.grammar.Nodes.{FirstsBelow, literal_nodes, plain_nodes}
-use Rattle.text_literal.proofs.grammar.RangeLemmas.{firsts_in}
+use Rattle.text_literal.specs.literal_grammar.Literal.{Literal, labelled, again, Plain, integer, character, string, double, truth, unit, constant, applied, fields, tuple, empty_array, array, literal_kinds}
+use Rattle.text_literal.specs.literal_grammar.LiteralNodes.{FirstsBelow, literal_nodes, plain_nodes}
+use Rattle.text_literal.proofs.literal_grammar.RangeLemmas.{firsts_in}
 use Rattle.types_spec.specs.types.Equal.{declared_shapes}
 use Rattle.types_spec.specs.types.Names.{names_of}
 use Rattle.types_spec.specs.types.Shape.{shape}
@@ -25,27 +25,27 @@ use Rattle.types_spec.specs.types.Typing.{HasType}
 use Rattle.types_theory.specs.table.TableDecides.{TheRootIsFirst, TablesDecide}
 use Rattle.types_table.specs.type_table.Made.{types_of, table_of}
 use Rattle.text_print.specs.show.Laws.{RootsShowAgree}
-use Rattle.text_print.specs.show.Shown.{shown_text}
-use Rattle.text_print.specs.show.Tables.{shape_in, names_in}
+use Rattle.text_print.specs.show.ShownValues.{shown_text}
+use Rattle.text_print.specs.show.TableShapes.{shape_in, names_in}
 use Rattle.text_print.specs.same_type.SameText.{DeclaredTextsAreKept}
 use Rattle.text_print.specs.same_type.SameType.{DeclaredTypesAreKept}
-use Rattle.text_roundtrip.specs.text.Laws.{ReadsAgain, TextsAreReadAgain}
-use Rattle.cmd_build.specs.guess.Encoded.{AreEncoded, EncodedAreReadable}
-use Rattle.base_io.specs.State.{ByteState, Change}
-use Rattle.cli_errors.specs.declared.exit.Error.{Error}
-use Rattle.cli_errors.specs.declared.exit.Error.TheVariants as aborts
-use Rattle.run_types.specs.Bytes.{WritesBytes}
+use Rattle.text_roundtrip.specs.text_lines.Laws.{ReadsAgain, TextsAreReadAgain}
+use Rattle.cmd_build.specs.guess.ReadableNames.{AreEncoded, EncodedAreReadable}
+use Rattle.base_io.specs.StreamState.{ByteState, Change}
+use Rattle.cli_errors.specs.declared.exit_line.Error.{Error}
+use Rattle.cli_errors.specs.declared.exit_line.Error.TheVariants as aborts
+use Rattle.run_types.specs.ValueBytes.{WritesBytes}
 use Rattle.run_types.specs.Language.{TypeOver}
-use Rattle.run_types.specs.Types.{type_over, IsReady}
+use Rattle.run_types.specs.RequestedTexts.{type_over, IsReady}
 use Rattle.run_types.specs.declared.requested.Prepared.{Prepared}
-use Rattle.run_types.proofs.GivenLemmas.{ready_each}
-use Rattle.run_types.proofs.VerdictLemmas.{is_first, made as made_for}
-use Rattle.cmd_build.specs.spec.Texts.{Built, made as made_of, write_bytes}
+use Rattle.run_types.proofs.RunTypesGivenLemmas.{ready_each}
+use Rattle.run_types.proofs.RunTypesVerdictLemmas.{is_first, made as made_for}
+use Rattle.cmd_build.specs.spec.InputTexts.{Built, made as made_of, write_bytes}
 use Rattle.cmd_build.specs.command.Guessed.{IsRight}
-use Rattle.cmd_build.specs.command.Lines.{IsMade, plain_texts}
-use Rattle.cmd_build.specs.command.Steps.{AbortsBy, WritesBy}
-use Rattle.cmd_build.proofs.command.AgreeLemmas.{value_agree}
-use Rattle.cmd_build.proofs.command.StepLemmas.{bytes_plain, never_none}
+use Rattle.cmd_build.specs.command.InputLines.{IsMade, plain_texts}
+use Rattle.cmd_build.specs.command.LineSteps.{AbortsBy, WritesBy}
+use Rattle.cmd_build.proofs.command.BuildAgreeLemmas.{value_agree}
+use Rattle.cmd_build.proofs.command.BuildStepLemmas.{bytes_plain, never_none}
 
 -- ---- a literal has lexemes
 

@@ -5,25 +5,25 @@ use Rattle.cli_spec.specs.Outcome.{Output, all_ok}
 use Rattle.cli_spec.specs.declared.exit.Exit.{Exit}
 use Rattle.cli_spec.specs.declared.exit.Exit.TheVariants.{Text as text_line, Memory as out_of_memory}
 use Rattle.base_io.specs.Sink.{Writes}
-use Rattle.base_io.specs.State.{ByteState, Change}
-use Rattle.cli_errors.specs.declared.exit.Error.{Error}
-use Rattle.cli_errors.specs.declared.exit.Error.TheVariants as aborts
+use Rattle.base_io.specs.StreamState.{ByteState, Change}
+use Rattle.cli_errors.specs.declared.exit_line.Error.{Error}
+use Rattle.cli_errors.specs.declared.exit_line.Error.TheVariants as aborts
 use Rattle.run_spec.specs.runs.Account.{HaveNoExit}
 use Rattle.run_spec.specs.runs.Commands.{Item, value, text, Split, OutputsFirst}
-use Rattle.run_spec.proofs.runs.ValueLemmas.{all_ok-snoc}
+use Rattle.run_spec.proofs.runs.RunValueLemmas.{all_ok-snoc}
 use Rattle.run_loop.specs.work.Works.{Has, ItemsStay, AbortsIn, WritesLast}
 use Rattle.memchr.specs.Find.{Nowhere, Passes, is_byte}
 use Rattle.std.proofs.lemmas.Bool.Decides.{Decides-eqb}
-use Rattle.run_loop.proofs.work.FirstLemmas.{first_stays, first_next}
+use Rattle.run_loop.proofs.work.WorkFirstLemmas.{first_stays, first_next}
 use Rattle.run_types.specs.Language.{TypeOver, declared_types}
-use Rattle.run_types.specs.Types.{type_over}
+use Rattle.run_types.specs.RequestedTexts.{type_over}
 use Rattle.run_types.specs.declared.requested.Prepared.{Prepared}
-use Rattle.cmd_build.specs.spec.Texts.{Built, blank, made, refused, untyped, counted, IsUnbroken, IsLine, IsOutputOf, AreTexts, ExitsBy, building}
-use Rattle.cmd_build.proofs.spec.LineLemmas.{line_stays}
-use Rattle.cmd_build.proofs.spec.OutputLemmas.{fine_of}
-use Rattle.cmd_build.proofs.spec.TableLemmas.{goes_on}
-use Rattle.cmd_build.specs.command.Lines.{declared_texts}
-use Rattle.cmd_build.specs.command.Steps.{IsExitAt, AbortsAtLine, HasTexts, TakesLine}
+use Rattle.cmd_build.specs.spec.InputTexts.{Built, blank, made, refused, untyped, counted, IsUnbroken, IsLine, IsOutputOf, AreTexts, ExitsBy, building}
+use Rattle.cmd_build.proofs.spec.BuildSpecLineLemmas.{line_stays}
+use Rattle.cmd_build.proofs.spec.BuildSpecOutputLemmas.{fine_of}
+use Rattle.cmd_build.proofs.spec.BuildSpecTableLemmas.{goes_on}
+use Rattle.cmd_build.specs.command.InputLines.{declared_texts}
+use Rattle.cmd_build.specs.command.LineSteps.{IsExitAt, AbortsAtLine, HasTexts, TakesLine}
 
 abbrev texts_stay : (t : TypeOver) → ItemsStay (building declared_types declared_texts) t
 texts_stay t items bytes item more later (line, is, same) =

@@ -7,7 +7,7 @@ use Rattle.marshal_spec.specs.format.Canonical.{canon}
 use Rattle.marshal_spec.specs.format.Isomorphism.{IsTreeOf}
 use Rattle.marshal_spec.specs.format.Tree.{Tree}
 use Rattle.run_types.specs.Language.{TypeOver}
-use Rattle.cmd_build.specs.command.Lines.{IsMade}
+use Rattle.cmd_build.specs.command.InputLines.{IsMade}
 
 -- The value belongs to the graph, and the line gives the canonical bytes of its tree.
 pub record IsRight (t : TypeOver) (line : List ℕ) (graph : List Obj) (root : Val) : Type 0 where

@@ -25,8 +25,9 @@ use Rattle.run_spec.specs.runs.Call.{Call}
 use Rattle.run_spec.specs.runs.Commands.{Fetches}
 use Rattle.run_spec.specs.exit_causes.Causes.{Tables}
 use Rattle.run_spec.specs.exit_statuses.Stages.{IsRefusedType}
-use Rattle.cmd_build.specs.spec.Texts.{Built, blank, made, refused, untyped, IsUnbroken, IsLine}
-use Rattle.cmd_build.specs.spec.Texts.{built_by}
+use Rattle.cmd_build.specs.spec.InputTexts.{Built, blank, made, refused, untyped, IsUnbroken}
+use Rattle.cmd_build.specs.spec.InputTexts.{IsLine}
+use Rattle.cmd_build.specs.spec.InputTexts.{built_by}
 
 -- The bytes are the given lines, each with a line feed, followed by the remaining bytes.
 abbrev pub AreLines : List ℕ → List (List ℕ) → List ℕ → Type 0

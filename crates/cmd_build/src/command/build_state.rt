@@ -2,15 +2,15 @@
 
 ghost use Rattle.std.specs.Prelude.{◌≡◌, ◌+◌, ◌<◌, ◌^◌, ℕ, List, [], length};
 ghost use Rattle.cli_spec.specs.Outcome.{Output};
-ghost use Rattle.base_io.specs.State.{change};
-ghost use Rattle.run_types.specs.Types.{type_over};
-ghost use Rattle.cmd_build.specs.spec.Texts.{IsUnbroken};
-ghost use Rattle.cmd_build.specs.command.Steps.{HasTexts, TakesLine};
+ghost use Rattle.base_io.specs.StreamState.{change};
+ghost use Rattle.run_types.specs.RequestedTexts.{type_over};
+ghost use Rattle.cmd_build.specs.spec.InputTexts.{IsUnbroken};
+ghost use Rattle.cmd_build.specs.command.LineSteps.{HasTexts, TakesLine};
 
-use crate::command::line::write_line;
+use crate::command::literal_line::write_line;
 use base_data::text::write;
 use base_io::Sink;
-use cli_errors::exit::Error;
+use cli_errors::exit_line::Error;
 use marshal_heap::heap::Heap;
 use memchr::memchr;
 use run_loop::work::Work;
@@ -82,8 +82,8 @@ impl<'a> BuildState<'a> {
 
 impl Work for BuildState<'_> {
     ghost use Rattle.run_types.specs.Language.{TypeOver, declared_types};
-    ghost use Rattle.cmd_build.specs.spec.Texts.{building};
-    ghost use Rattle.cmd_build.specs.command.Lines.{declared_texts};
+    ghost use Rattle.cmd_build.specs.spec.InputTexts.{building};
+    ghost use Rattle.cmd_build.specs.command.InputLines.{declared_texts};
 
     ghost Act = { TypeOver };
 

@@ -4,12 +4,12 @@ ghost use Rattle.std.specs.Prelude.{List};
 ghost use Rattle.types_spec.specs.declared.types.decl.Decl.{Decl};
 ghost use Rattle.text_path.specs.declared.edits.ScriptLine.{ScriptLine};
 ghost use Rattle.run_types.specs.Language.{TypeOver, declared_types};
-ghost use Rattle.cmd_build.specs.spec.Texts.{IsReadOnce};
-ghost use Rattle.cmd_build.specs.command.Lines.{declared_texts};
+ghost use Rattle.cmd_build.specs.spec.InputTexts.{IsReadOnce};
+ghost use Rattle.cmd_build.specs.command.InputLines.{declared_texts};
 
 use crate::spec::laws::Builds;
 use types_theory::table::type_or_fault;
-use types_wellformed::declarations::known::{files_are_well_formed, types_are_sound};
+use types_wellformed::declarations::well_formed_laws::{files_are_well_formed, types_are_sound};
 
 /// Texts of values of declared types.
 pub struct DeclaredTexts;

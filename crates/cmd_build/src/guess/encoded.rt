@@ -10,11 +10,12 @@ ghost use Rattle.text_roundtrip.specs.literal_texts.Readable.{IsHead, AreFieldNa
 ghost use Rattle.text_roundtrip.specs.literal_texts.Readable.{IsConstantName};
 ghost use Rattle.text_roundtrip.specs.literal_texts.Readable.{IsConstructorName};
 ghost use Rattle.types_spec.specs.declared.types.names.ConstrNames.{ConstrNames};
-ghost use Rattle.cmd_build.specs.guess.Encoded.{IsNoKeyword, AreConstantNames, AreConstructorNames};
-ghost use Rattle.cmd_build.specs.guess.Encoded.{IsEncoded, AreEncoded, has_name};
+ghost use Rattle.cmd_build.specs.guess.ReadableNames.{IsNoKeyword, AreConstantNames};
+ghost use Rattle.cmd_build.specs.guess.ReadableNames.{AreConstructorNames};
+ghost use Rattle.cmd_build.specs.guess.ReadableNames.{IsEncoded, AreEncoded, has_name};
 
 use base_data::model::list::List;
-use types_lex::bytes::{is_name_byte, starts_lower};
+use types_lex::character_classes::{is_name_byte, starts_lower};
 use types_spec::types::names::{ConstrNames, Names};
 use types_spec::types::shape::ShapeOf;
 use types_table::type_table::TypeTable;
@@ -193,7 +194,7 @@ fn are_constructors(names: &Names) -> bool
 }
 
 /// Returns true if the names of a type with the representation `shape` are readable.
-#[tactic(auto, using(crate::proofs::guess::EncodedLemmas::sum_names))]
+#[tactic(auto, using(crate::proofs::guess::GuessEncodedLemmas::sum_names))]
 fn is_encoded_at(shape: &ShapeOf<usize>, names: &Names) -> bool
     ensures { IsTrue result → IsEncoded shape.now names.now }
 {

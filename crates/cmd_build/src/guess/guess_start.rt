@@ -1,7 +1,7 @@
 //! The beginning of a part of a text, parsed at the part's type.
 
+use crate::guess::guess_scanners::{after, double, integer, name_len, plain_len, prefix, string};
 use crate::guess::guessed_block::GuessedBlock;
-use crate::guess::scan::{after, double, integer, name_len, plain_len, prefix, string};
 use base_data::model::Memory;
 use base_data::model::list::List;
 use base_data::model::value::Val;

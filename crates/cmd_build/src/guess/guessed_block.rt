@@ -1,6 +1,6 @@
 //! A stack entry for a block whose parts are not all parsed.
 
-use crate::guess::scan::{after, between};
+use crate::guess::guess_scanners::{after, between};
 use base_data::model::list::List;
 
 /// A block by its number, with the index of the next part, the types of all parts, and the names of

@@ -11,7 +11,7 @@ ghost use Rattle.run_spec.specs.command_sum.CommandSum.{AreDisjoint};
 ghost use Rattle.run_spec.specs.value_commands.Tasks.{commands};
 ghost use Rattle.cmd_build.specs.spec.Laws.{IsIdleElsewhere};
 ghost use Rattle.cmd_build.specs.spec.ExitStatuses.{texts_tables, IsNeverRefused};
-ghost use Rattle.cmd_build.specs.spec.Texts.{Built, building, IsReadOnce};
+ghost use Rattle.cmd_build.specs.spec.InputTexts.{Built, building, IsReadOnce};
 
 use run_spec::exit_causes::laws::{Meant, causes_of_tables};
 use run_spec::runs::laws::{Act, lawful_commands, lawful_commands_keep_run_spec};

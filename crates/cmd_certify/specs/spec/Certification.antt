@@ -1,7 +1,7 @@
 -- The command `check --cert` in the general form of `Commands`. An item is a value, and the output
 -- for the value is the value's certificate entry with the value's number.
 use Rattle.std.specs.Prelude.{ℕ, ◌≡◌, List, length, Option, None, Some, Result, Ok}
-use Rattle.marshal_spec.specs.format.Stream.{End}
+use Rattle.marshal_spec.specs.format.Stream.{StreamEnd}
 use Rattle.marshal_spec.specs.format.Tree.{Tree}
 use Rattle.cli_spec.specs.CommandLine.{certify}
 use Rattle.cli_spec.specs.Outcome.{Request, AskedType, asked_type, own, Output, nothing_output}
@@ -12,7 +12,7 @@ use Rattle.run_spec.specs.runs.Commands.{Item, value as value_item, Fetches, Com
 use Rattle.run_spec.specs.runs.Lawful.{IsOnce}
 use Rattle.run_spec.specs.runs.LawfulLanguage.{IsGiven}
 use Rattle.run_spec.specs.value_commands.Tasks.{IsFirstValue}
-use Rattle.cmd_certify.specs.spec.Ends as ends
+use Rattle.cmd_certify.specs.spec.RefusedEnd as ends
 
 -- The task of the command: to certify the values at the type, under the limit of words.
 pub record Certification (T : Type 0) : Type 0 where
@@ -41,7 +41,7 @@ module _ {T : Type 0} (SectionOf : OutputsSections T) (a : Certification T) wher
   abbrev pub EndsClean : ℕ → Reply → Type 0
   EndsClean number last = last ≡ outputs nothing_output
 
-  abbrev pub EndsBy : ℕ → End → Reply → Type 0
+  abbrev pub EndsBy : ℕ → StreamEnd → Reply → Type 0
   EndsBy number end last = ends.EndsBy a.limit EndsClean number end last
 
   abbrev pub EndsHere : List Item → List ℕ → Reply → Type 0
@@ -50,21 +50,21 @@ module _ {T : Type 0} (SectionOf : OutputsSections T) (a : Certification T) wher
 -- ---- the files
 
 -- The parsed arguments, if values are to be certified: FILE, TYPE and the limit.
-pub record Asked : Type 0 where
+pub record CertifyArguments : Type 0 where
   pub file : List ℕ
   pub type : AskedType
   pub limit : ℕ
 
-abbrev pub certified_by : Request → Option Asked
+abbrev pub certified_by : Request → Option CertifyArguments
 certified_by (own (certify file type lines reading)) =
     Some (record { file = file; type = asked_type type lines; limit = reading.limit })
 certified_by request = None
 
-abbrev pub typed_of : Asked → List ℕ × AskedType
+abbrev pub typed_of : CertifyArguments → List ℕ × AskedType
 typed_of asked = (asked.file, asked.type)
 
 -- FILE and TYPE are read. The result contains the task or the exit reason.
-abbrev pub CertifiesBy : {D T E : Type 0} → Language D T E → Fetches → Asked
+abbrev pub CertifiesBy : {D T E : Type 0} → Language D T E → Fetches → CertifyArguments
     → Result (Certification T) Exit → Type 0
 CertifiesBy language files asked =
     Then (ReadsTypeOf language (files 0) (typed_of asked)) (λ type found.
@@ -76,11 +76,12 @@ module _ {D T E : Type 0} (language : Language D T E) (SectionOf : OutputsSectio
   -- The file `name` is requested in this turn. Only FILE is requested, in the first turn.
   abbrev pub Wants : Request → Fetches → ℕ → List ℕ → Type 0
   Wants request files turn name =
-      (asked : Asked) × (certified_by request ≡ Some asked) × (turn ≡ 0) × (name ≡ asked.file)
+      (asked : CertifyArguments) × (certified_by request ≡ Some asked) × (turn ≡ 0)
+      × (name ≡ asked.file)
 
   abbrev pub Finds : Request → Fetches → Result (Certification T) Exit → Type 0
   Finds request files result =
-      (asked : Asked) × (certified_by request ≡ Some asked)
+      (asked : CertifyArguments) × (certified_by request ≡ Some asked)
       × CertifiesBy language files asked result
 
   abbrev pub certifying : Commands (Certification T)

@@ -24,12 +24,12 @@ use Rattle.cli_spec.specs.declared.exit.Exit.{Exit}
 use Rattle.run_spec.specs.runs.Call.{Call}
 use Rattle.run_spec.specs.runs.Commands.{Fetches}
 use Rattle.run_spec.specs.exit_causes.Causes.{Tables}
-use Rattle.run_spec.specs.exit_statuses.Numbered.{HoldsOfAll, HoldsOfSome}
+use Rattle.run_spec.specs.exit_statuses.NumberedItems.{HoldsOfAll, HoldsOfSome}
 use Rattle.run_spec.specs.exit_statuses.Stages.{IsRefusedType}
-use Rattle.cmd_certify.specs.spec.Certification.{Certification, OutputsSections, Asked}
+use Rattle.cmd_certify.specs.spec.Certification.{Certification, OutputsSections, CertifyArguments}
 use Rattle.cmd_certify.specs.spec.Certification.{certified_by}
 use Rattle.cmd_certify.specs.spec.Certification.{Wants}
-use Rattle.cmd_certify.specs.spec.Ends as ends
+use Rattle.cmd_certify.specs.spec.RefusedEnd as ends
 
 module _ {T : Type 0} (SectionOf : OutputsSections T) (a : Certification T) where
   -- The value has a certificate entry. `ok` states whether the entry proves that the value has the
@@ -59,7 +59,7 @@ module _ {T : Type 0} (SectionOf : OutputsSections T) (a : Certification T) wher
 module _ {D T E : Type 0} (language : Language D T E) (SectionOf : OutputsSections T) where
   -- FILE is read, and the contents of FILE or the text TYPE are refused.
   pub record RefusesTypes (request : Request) (files : Fetches) : Type 0 where
-    pub asked : Asked
+    pub asked : CertifyArguments
     pub is_asked : certified_by request ≡ Some asked
     pub text : List ℕ
     pub read : files 0 asked.file ≡ opened (whole text)

@@ -5,10 +5,10 @@ ghost use Rattle.types_spec.specs.declared.types.decl.Decl.{Decl};
 ghost use Rattle.text_path.specs.declared.edits.ScriptLine.{ScriptLine};
 ghost use Rattle.run_types.specs.Language.{TypeOver, declared_types};
 ghost use Rattle.cmd_certify.specs.spec.Certification.{AreCertifiedOnce};
-ghost use Rattle.cmd_certify.specs.command.Certified.{declared_certificates};
+ghost use Rattle.cmd_certify.specs.command.CertifiedOutput.{declared_certificates};
 
 use crate::spec::laws::Certifies;
-use cert_verify::agreement::laws::tables_reach_agree;
+use cert_verify::table_independence::laws::tables_reach_agree;
 
 /// The parameters of `check --cert` for values of declared types.
 pub struct DeclaredCertificates;

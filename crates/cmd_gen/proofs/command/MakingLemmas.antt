@@ -3,17 +3,17 @@ use Rattle.std.proofs.Common.{ℕ, List, [], Bool, Result, Ok, Err, inr, refl, s
 use Rattle.cli_spec.specs.Outcome.{Output}
 use Rattle.cli_spec.specs.declared.exit.Exit.TheVariants.{Memory as out_of_memory}
 use Rattle.base_io.specs.Sink.{Writes, WritesPart}
-use Rattle.base_io.specs.State.{ByteState, Change, change}
-use Rattle.cli_errors.specs.declared.exit.Error.{Error}
-use Rattle.cli_errors.specs.declared.exit.Error.TheVariants as aborts
+use Rattle.base_io.specs.StreamState.{ByteState, Change, change}
+use Rattle.cli_errors.specs.declared.exit_line.Error.{Error}
+use Rattle.cli_errors.specs.declared.exit_line.Error.TheVariants as aborts
 use Rattle.run_spec.specs.runs.Account.{HaveNoExit}
-use Rattle.run_spec.proofs.runs.WriteLemmas.{writes_nothing}
-use Rattle.run_spec.proofs.runs.ValueLemmas.{and_true}
+use Rattle.run_spec.proofs.runs.RunWriteLemmas.{writes_nothing}
+use Rattle.run_spec.proofs.runs.RunValueLemmas.{and_true}
 use Rattle.run_loop.specs.work.Works.{WritesLast, EndsAt}
 use Rattle.run_types.specs.declared.requested.Prepared.{Prepared}
 use Rattle.run_types.specs.Language.{TypeOver, declared_types}
 use Rattle.cmd_gen.specs.spec.GenSpec.{Making, IsMadeLine, gen_spec}
-use Rattle.cmd_gen.specs.command.Lines.{making_of, HasNothing}
+use Rattle.cmd_gen.specs.command.OutputLines.{making_of, HasNothing}
 
 module _ (number count : ℕ) (r : Prepared) where
   abbrev act : Making TypeOver

@@ -15,12 +15,12 @@ use Rattle.run_spec.specs.runs.Commands.{Given, OutputsAlone, Answers, RunReplie
 use Rattle.run_spec.specs.runs.Lawful.{AreLawful}
 use Rattle.run_spec.specs.runs.Environment.{WritesLine, IsWriteOrMemoryError}
 use Rattle.run_spec.specs.runs.RunSpec.{IsOfOutcome, RunSpec}
-use Rattle.run_spec.proofs.runs.OnceLemmas.{replies_once}
-use Rattle.run_spec.proofs.runs.SettledLemmas.{Goes, exit_status}
+use Rattle.run_spec.proofs.runs.RunOnceLemmas.{replies_once}
+use Rattle.run_spec.proofs.runs.RunSettledLemmas.{Goes, exit_status}
 use Rattle.run_spec.specs.exit_statuses.Stages.{IsRefusedType}
-use Rattle.cmd_gen.specs.spec.GenSpec.{Asked, Making, making, IsMadeLine, EndsWithLine, gen_spec}
+use Rattle.cmd_gen.specs.spec.GenSpec.{GenArguments, Making, making, IsMadeLine, EndsWithLine, gen_spec}
 use Rattle.cmd_gen.specs.spec.ExitStatuses.{IsKnownOf, IsKnown, Gives, AskFor, IsDue, HasWhatIsDue, WritesTheLine, AreNever}
-use Rattle.cmd_gen.proofs.spec.FindLemmas.{refused_type}
+use Rattle.cmd_gen.proofs.spec.GenSpecFindLemmas.{refused_type}
 
 module _ {D T E : Type 0} (language : Language D T E) where
   -- If a run has replies, then the only reply is the line of the value.
@@ -40,7 +40,7 @@ module _ {D T E : Type 0} (language : Language D T E) where
   module _ (arguments : List (List ℕ)) where
     -- Case: the output is the line.
     pub record IsLineOf (all : Replies) : Type 0 where
-      pub asked : Asked
+      pub asked : GenArguments
       pub ask : AskFor language arguments asked
       pub output : Output
       pub known : IsKnownOf language asked output
@@ -51,7 +51,7 @@ module _ {D T E : Type 0} (language : Language D T E) where
       pub exit : Exit
       pub is : all ≡ stopped exit
       pub why : (IsUsage arguments × (exit ≡ usage))
-          ⊎ ((asked : Asked) × AskFor language arguments asked × (status_of exit ≡ statuses.Types)
+          ⊎ ((asked : GenArguments) × AskFor language arguments asked × (status_of exit ≡ statuses.Types)
           × IsRefusedType language item_declarations (asked_type asked.type false))
 
     module _ (given : Given) where
@@ -100,7 +100,7 @@ module _ {D T E : Type 0} (language : Language D T E) where
 
       -- If there is an output for the value, then the output determines the status.
       line_gives :
-          (asked : Asked) (ok : Bool) → IsKnown language asked ok
+          (asked : GenArguments) (ok : Bool) → IsKnown language asked ok
           → Gives language asked (if ok && true then statuses.AllOk else statuses.No)
       line_gives asked true known = known
       line_gives asked false known = known
@@ -114,7 +114,7 @@ module _ {D T E : Type 0} (language : Language D T E) where
       status_due all (inr s) =
           subst (λ all. IsDue language arguments (ending_of all).status) (sym s.is) (by s.why) where
             by : (IsUsage arguments × (s.exit ≡ usage))
-                ⊎ ((asked : Asked) × AskFor language arguments asked
+                ⊎ ((asked : GenArguments) × AskFor language arguments asked
                 × (status_of s.exit ≡ statuses.Types)
                 × IsRefusedType language item_declarations (asked_type asked.type false))
                 → IsDue language arguments (status_of s.exit)
@@ -129,7 +129,7 @@ module _ {D T E : Type 0} (language : Language D T E) where
           × ((ending_of all).status ≡ status)
 
       output_outcome :
-          (asked : Asked) → AskFor language arguments asked → (output : Output)
+          (asked : GenArguments) → AskFor language arguments asked → (output : Output)
           → IsKnownOf language asked output
           → HasOutcome (if output.ok && true then statuses.AllOk else statuses.No)
       output_outcome asked (request, asks, is) output known = (
@@ -147,7 +147,7 @@ module _ {D T E : Type 0} (language : Language D T E) where
       )
 
       exit_outcome :
-          (asked : Asked) → AskFor language arguments asked
+          (asked : GenArguments) → AskFor language arguments asked
           → IsRefusedType language item_declarations (asked_type asked.type false) → HasOutcome statuses.Types
       exit_outcome asked (request, asks, is) (inl (refusal, refuses)) = (
         stopped (declarations refusal),
@@ -189,14 +189,14 @@ module _ {D T E : Type 0} (language : Language D T E) where
       )
 
       ok_outcome :
-          (ok : Bool) (asked : Asked) → AskFor language arguments asked → IsKnown language asked ok
+          (ok : Bool) (asked : GenArguments) → AskFor language arguments asked → IsKnown language asked ok
           → HasOutcome (if ok && true then statuses.AllOk else statuses.No)
       ok_outcome ok asked ask (output, known, is) =
           subst (λ (w : Bool). HasOutcome (if w && true then statuses.AllOk else statuses.No)) is
           (output_outcome asked ask output known)
 
       asked_outcome :
-          (status : Status) (asked : Asked) → AskFor language arguments asked
+          (status : Status) (asked : GenArguments) → AskFor language arguments asked
           → Gives language asked status → HasOutcome status
       asked_outcome statuses.AllOk asked ask h = ok_outcome true asked ask h
       asked_outcome statuses.No asked ask h = ok_outcome false asked ask h
@@ -331,7 +331,7 @@ module _ {D T E : Type 0} (language : Language D T E) where
       types_not (inr e) = cc e
 
       abbrev IsWritten : Type 0
-      IsWritten = (asked : Asked) × AskFor language arguments asked × (output : Output)
+      IsWritten = (asked : GenArguments) × AskFor language arguments asked × (output : Output)
           × IsKnownOf language asked output × Writes call.out output.text
 
       write_by :
@@ -349,7 +349,7 @@ module _ {D T E : Type 0} (language : Language D T E) where
           by (subst (λ (all : Replies). IsOkOrNo (ending_of all).status) s.is ok) s.why where
             by : IsOkOrNo (status_of s.exit)
                 → (IsUsage arguments × (s.exit ≡ usage))
-                ⊎ ((asked : Asked) × AskFor language arguments asked
+                ⊎ ((asked : GenArguments) × AskFor language arguments asked
                 × (status_of s.exit ≡ statuses.Types)
                 × IsRefusedType language item_declarations (asked_type asked.type false)) → IsWritten
             by ok (inl (none, is)) =

@@ -1,7 +1,7 @@
 -- A run of `gen` fetches no file and reads no input.
 use Rattle.std.proofs.Common.{◌≡◌, ◌≤◌, ℕ, zero, suc, List, inl, inr, sym, ◌∙◌, subst, arith}
 use Rattle.cli_spec.specs.Outcome.{Taken, Language}
-use Rattle.base_io.specs.State.{Change, FilesState, change}
+use Rattle.base_io.specs.StreamState.{Change, FilesState, change}
 use Rattle.run_spec.specs.runs.Account.{FetchesIn, FetchesFor, MayBe}
 use Rattle.run_spec.specs.runs.Call.{Call}
 use Rattle.run_spec.specs.runs.Commands.{Fetches, Given}

@@ -78,24 +78,24 @@ value_of first (Pair i j) = vals.Ref first
 value_of first (Cell i) = vals.Ref (first + 1)
 
 -- The objects and values of the items so far, and the state of the random generator.
-pub record Made : Type 0 where
+pub record MadeItems : Type 0 where
   pub all : List Obj
   pub values : List Val
   pub state : ℕ
 
 -- The items so far and one more item, with its objects and its value.
-abbrev pub with_item : Made → GeneratedItem → Made
+abbrev pub with_item : MadeItems → GeneratedItem → MadeItems
 with_item made item = record {
   all = made.all ++ objects_of (length made.all) made.values item;
   values = made.values ++ value_of (length made.all) item ∷ [];
   state = state_after 3 made.state;
 }
 
-abbrev pub next_made : Made → Made
+abbrev pub next_made : MadeItems → MadeItems
 next_made made = with_item made (item_at (length made.values) made.state)
 
 -- The first `count` items that are generated from `number`.
-abbrev pub items_made : ℕ → ℕ → Made
+abbrev pub items_made : ℕ → ℕ → MadeItems
 items_made number zero = record { all = []; values = []; state = number }
 items_made number (suc count) = next_made (items_made number count)
 

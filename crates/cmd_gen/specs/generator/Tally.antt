@@ -1,6 +1,6 @@
 -- The model of the sink that counts bytes.
 use Rattle.std.specs.Prelude.{ℕ, ◌+◌, ◌^◌, ◌≤◌, ◌⊎◌, List, length, sum, Some}
-use Rattle.base_io.specs.State.{ByteState}
+use Rattle.base_io.specs.StreamState.{ByteState}
 
 -- The bytes received by the sink, and the number of failed calls.
 pub record Known : Type 0 where

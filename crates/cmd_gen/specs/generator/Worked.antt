@@ -6,7 +6,7 @@ use Rattle.marshal_spec.specs.format.Isomorphism.{IsTreeOf}
 use Rattle.marshal_spec.specs.format.Token.{integer, block, leaf}
 use Rattle.marshal_spec.specs.format.Tree.{Tree, node, none, more}
 use Rattle.cmd_gen.specs.generator.Generated.{generated}
-use Rattle.cmd_gen.specs.generator.Line.{generated_text}
+use Rattle.cmd_gen.specs.generator.ValueLine.{generated_text}
 
 -- `an_int`: the tree of an integer. `a_cell`: the tree of a list cell.
 abbrev pub an_int : ℕ → Tree
@@ -23,7 +23,7 @@ a_text = node (block 1 1) (more (node (leaf (objects.Bytes (replicate 38 99))) n
 abbrev pub three : Tree
 three = a_cell (an_int 0) (a_cell (an_int 0) (a_cell a_text (an_int 0)))
 
-pub record Worked : Type 0 where
+pub record WorkedValues : Type 0 where
   -- Number 1 with no items generates the empty list.
   pub none_at_all : generated 1 0 ≡ ([], vals.Int (pos 0))
   -- Number 1 with three items generates the list `three`.

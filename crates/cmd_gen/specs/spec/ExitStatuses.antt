@@ -19,11 +19,11 @@ use Rattle.run_spec.specs.runs.Call.{Call}
 use Rattle.run_spec.specs.runs.Given.{Gathers}
 use Rattle.run_spec.specs.runs.Environment.{IsWriteOrMemoryError}
 use Rattle.run_spec.specs.exit_statuses.Stages.{IsRefusedType}
-use Rattle.cmd_gen.specs.spec.GenSpec.{Asked, generated_by, making, IsMadeLine}
+use Rattle.cmd_gen.specs.spec.GenSpec.{GenArguments, generated_by, making, IsMadeLine}
 
 module _ {D T E : Type 0} (language : Language D T E) where
   -- TYPE is valid, and `output` is the output for the generated value.
-  pub record IsKnownOf (asked : Asked) (output : Output) : Type 0 where
+  pub record IsKnownOf (asked : GenArguments) (output : Output) : Type 0 where
     pub decls : D
     pub are_declared : language.ReadsDeclarations false item_declarations (Ok decls)
     pub type : T
@@ -31,11 +31,11 @@ module _ {D T E : Type 0} (language : Language D T E) where
     pub is_line : IsMadeLine language (making asked type) output
 
   -- There is an output for the generated value, and `ok` states whether the value has the type.
-  abbrev pub IsKnown : Asked → Bool → Type 0
+  abbrev pub IsKnown : GenArguments → Bool → Type 0
   IsKnown asked ok = (output : Output) × IsKnownOf asked output × (output.ok ≡ ok)
 
   -- The parsed arguments determine this status.
-  abbrev pub Gives : Asked → Status → Type 0
+  abbrev pub Gives : GenArguments → Status → Type 0
   Gives asked AllOk = IsKnown asked true
   Gives asked No = IsKnown asked false
   Gives asked Types = IsRefusedType language item_declarations (asked_type asked.type false)
@@ -43,14 +43,14 @@ module _ {D T E : Type 0} (language : Language D T E) where
 
   module _ (arguments : List (List ℕ)) where
     -- The arguments parse to the request `asked`.
-    abbrev pub AskFor : Asked → Type 0
+    abbrev pub AskFor : GenArguments → Type 0
     AskFor asked =
         (request : Request) × Asks arguments request × (generated_by request ≡ Some asked)
 
     abbrev pub IsDue : Status → Type 0
     IsDue status =
         (IsUsage arguments × (status ≡ Usage))
-        ⊎ ((asked : Asked) × AskFor asked × Gives asked status)
+        ⊎ ((asked : GenArguments) × AskFor asked × Gives asked status)
 
     -- The run has exactly the status that the arguments and TYPE determine, unless memory ran out
     -- or writing failed.
@@ -62,7 +62,7 @@ module _ {D T E : Type 0} (language : Language D T E) where
     -- If the status is 0 or 1, then the line of the value and nothing else is written to out.
     abbrev pub WritesTheLine : Call → Type 0
     WritesTheLine call = (call.status ≡ AllOk) ⊎ (call.status ≡ No)
-        → (asked : Asked) × AskFor asked × (output : Output) × IsKnownOf asked output
+        → (asked : GenArguments) × AskFor asked × (output : Output) × IsKnownOf asked output
         × Writes call.out output.text
 
 -- The call does not end with status 4, 5, 6, 8, 10, 11 or 12.
@@ -82,7 +82,7 @@ pub record LeavesEnvironment (call : Call) : Type 0 where
 
 -- The exit status specification of a call: each status has its cause, and each cause has its
 -- status, for all inputs and files.
-pub record Causes {D T E : Type 0} (language : Language D T E) (arguments : List (List ℕ))
+pub record GenCauses {D T E : Type 0} (language : Language D T E) (arguments : List (List ℕ))
     (call : Call)
     : Type 0 where
   pub due : HasWhatIsDue language arguments call

@@ -10,16 +10,16 @@ use Rattle.cli_spec.specs.declared.exit.Exit.{Exit}
 use Rattle.cli_spec.specs.declared.exit.Exit.TheVariants.{Declarations as declarations}
 use Rattle.cli_spec.specs.declared.exit.Exit.TheVariants.{RequestedType as requested_type}
 use Rattle.cmd_gen.specs.generator.Generated.{item_declarations, generated}
-use Rattle.cmd_gen.specs.generator.Line.{generated_text}
+use Rattle.cmd_gen.specs.generator.ValueLine.{generated_text}
 use Rattle.run_spec.specs.runs.Commands.{Item, Fetches, Commands}
 
 -- The parsed arguments: the number, the count of items, and the text TYPE.
-pub record Asked : Type 0 where
+pub record GenArguments : Type 0 where
   pub number : ℕ
   pub count : ℕ
   pub type : List ℕ
 
-abbrev pub generated_by : Request → Option Asked
+abbrev pub generated_by : Request → Option GenArguments
 generated_by (own (generate number count type)) =
     Some (record { number = number; count = count; type = type })
 generated_by request = None
@@ -32,7 +32,7 @@ pub record Making (T : Type 0) : Type 0 where
   pub type : T
 
 -- The task for the type that TYPE denotes.
-abbrev pub making : {T : Type 0} → Asked → T → Making T
+abbrev pub making : {T : Type 0} → GenArguments → T → Making T
 making asked type = record { number = asked.number; count = asked.count; type = type }
 
 -- The tree is a tree of the generated value.
@@ -49,7 +49,7 @@ module _ {D T E : Type 0} (language : Language D T E) where
 
   abbrev pub Finds : Request → Fetches → Result (Making T) Exit → Type 0
   Finds request files result =
-      (asked : Asked) × (generated_by request ≡ Some asked)
+      (asked : GenArguments) × (generated_by request ≡ Some asked)
       × Then (ReadsItemType asked.type) (λ type found. found ≡ Ok (making asked type)) result
 
   -- The output for the generated value: the numbers of its canonical bytes, and its verdict.

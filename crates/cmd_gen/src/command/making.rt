@@ -1,8 +1,8 @@
 //! The command `gen` as a value that implements `Work`.
 
-use crate::command::line::made_line;
+use crate::command::output_line::made_line;
 use base_io::{Sink, write_all};
-use cli_errors::exit::Error;
+use cli_errors::exit_line::Error;
 use run_loop::work::Work;
 use run_types::Requested;
 use std::alloc::Global;
@@ -19,7 +19,7 @@ pub struct Generating<'a> {
 impl Work for Generating<'_> {
     ghost use Rattle.run_types.specs.Language.{TypeOver, declared_types};
     ghost use Rattle.cmd_gen.specs.spec.GenSpec.{Making, gen_spec};
-    ghost use Rattle.cmd_gen.specs.command.Lines.{making_of, HasNothing};
+    ghost use Rattle.cmd_gen.specs.command.OutputLines.{making_of, HasNothing};
 
     ghost Act = { Making TypeOver };
 

@@ -1,7 +1,7 @@
 //! A sink that counts and sums bytes.
 
 ghost use Rattle.std.specs.Prelude.{◌≡◌, ◌↔◌, ◌≤◌, [], length, take, min, sum, is_err, IsErr, IfOk};
-ghost use Rattle.base_io.specs.Faults.{count_after};
+ghost use Rattle.base_io.specs.IoFaults.{count_after};
 ghost use Rattle.base_io.specs.Sink.{AppendsPrefix};
 ghost use Rattle.cmd_gen.specs.generator.Tally.{tally_state, HasNoRoom};
 

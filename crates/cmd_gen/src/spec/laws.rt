@@ -6,7 +6,7 @@ ghost use Rattle.run_spec.specs.runs.LawfulLanguage.{IsLawful};
 ghost use Rattle.run_spec.specs.runs.RunLaws.{AnswerOnce, KeepRunSpec};
 ghost use Rattle.cmd_gen.specs.spec.GenSpec.{Making, gen_spec};
 ghost use Rattle.cmd_gen.specs.spec.Laws.{IsIdleElsewhere};
-ghost use Rattle.cmd_gen.specs.spec.ExitStatuses.{Causes};
+ghost use Rattle.cmd_gen.specs.spec.ExitStatuses.{GenCauses};
 
 use run_spec::runs::laws::{Act, lawful_commands, lawful_commands_keep_run_spec};
 use run_spec::value_commands::laws::Prints;
@@ -58,13 +58,13 @@ pub fn gen_spec_is_idle_elsewhere<L: Prints>()
     ensures { IsIdleElsewhere L.language }
 {}
 
-/// Proves the exit status specification (`Causes`). A run has exactly the status that its arguments
-/// and TYPE determine, unless memory ran out or writing to out or err failed. If the status is 0 or
-/// 1, the output is the line of the value. No status depends on the input or on files, because the
-/// command reads none.
+/// Proves the exit status specification (`GenCauses`). A run has exactly the status that its
+/// arguments and TYPE determine, unless memory ran out or writing to out or err failed. If the
+/// status is 0 or 1, the output is the line of the value. No status depends on the input or on
+/// files, because the command reads none.
 pub fn causes_of_gen_spec<L: Prints>()
     requires { IsLawful L.language }
-    ensures { Follow (gen_spec L.language) (Causes L.language) }
+    ensures { Follow (gen_spec L.language) (GenCauses L.language) }
 {
     gen_spec_is_lawful::<L>();
 }

@@ -15,20 +15,20 @@ use Rattle.marshal_spec.specs.format.Prefix.{IsPrefix, IsRefused}
 use Rattle.marshal_spec.proofs.format.EncodeValues.{AreBytes-prefix}
 use Rattle.marshal_spec.proofs.format.TokenStepLemmas.{header_length-from}
 use Rattle.marshal_read.specs.declared.reader.Reader.{Reader}
-use Rattle.marshal_read.specs.Reader.{Leads}
-use Rattle.marshal_read.proofs.HeadLemmas.{first_undecided, header_bad}
+use Rattle.marshal_read.specs.Reader.{LeadsReader}
+use Rattle.marshal_read.proofs.ReaderHeadLemmas.{first_undecided, header_bad}
 use Rattle.cli_spec.specs.Outcome.{Request, Output, texts_of}
-use Rattle.run_spec.proofs.runs.ValueLemmas.{texts_of-one}
-use Rattle.run_loop.specs.work.Gathered.{GathersTo, GathersSome}
-use Rattle.run_loop.proofs.work.GatherLemmas.{some_of_one, gathers_each}
-use Rattle.cmd_scan.specs.found.Parts.{passed, AreRefused}
-use Rattle.cmd_scan.proofs.found.PrefixLemmas.{refused_no_prefix}
+use Rattle.run_spec.proofs.runs.RunValueLemmas.{texts_of-one}
+use Rattle.run_loop.specs.work.GatheredOutput.{GathersTo, GathersSome}
+use Rattle.run_loop.proofs.work.WorkGatherLemmas.{some_of_one, gathers_each}
+use Rattle.cmd_scan.specs.found_positions.InputParts.{passed, AreRefused}
+use Rattle.cmd_scan.proofs.found_positions.FoundPositionPrefixLemmas.{refused_no_prefix}
 use Rattle.cmd_scan.specs.spec.Searching.{searching}
 use Rattle.cmd_scan.specs.sweep.Swept.{Takes}
 use Rattle.cmd_scan.specs.command.Last.{IsDecided}
 use Rattle.cmd_scan.specs.command.Passed.{magic_prefix, AreClear}
-use Rattle.cmd_scan.specs.command.Searched.{HasSearched, HasStretch}
-use Rattle.cmd_scan.proofs.command.SearchLemmas.{HasKept, kept_of, searched_of, kept_holds, kept_stretch, next_output, text_is, stretch_kept, stretches_stay}
+use Rattle.cmd_scan.specs.command.SearchOutput.{HasSearched, HasStretch}
+use Rattle.cmd_scan.proofs.command.ScanCommandSearchLemmas.{HasKept, kept_of, searched_of, kept_holds, kept_stretch, next_output, text_is, stretch_kept, stretches_stay}
 
 -- ---- four bytes
 
@@ -198,7 +198,7 @@ module _ (limit_by : Request → Option ℕ) (limit : ℕ) (held buffered : List
   -- If no magic number begins at the first `n` bytes, then the search skips them.
   pub passed_over :
       (reader : Reader) (left : List ℕ) (new : Reader) (position : ℕ)
-      → left ≡ take 3 (drop n all) → Leads limit left new → position ≡ at + n
+      → left ≡ take 3 (drop n all) → LeadsReader limit left new → position ≡ at + n
       → (bytes : List ℕ) (output : List Output)
       → HasSearched limit_by limit held reader at bytes output
       → GathersTo (searching limit_by) limit (HasSearched limit_by limit left new position) buffered n

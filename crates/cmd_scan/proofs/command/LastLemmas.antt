@@ -10,12 +10,12 @@ use Rattle.marshal_spec.specs.format.Encoded.{EncodedUnder}
 use Rattle.marshal_spec.specs.format.Tree.{Tree}
 use Rattle.marshal_read.specs.declared.reader.Reader.{Reader}
 use Rattle.marshal_read.specs.declared.reader.Fed.{Fed}
-use Rattle.marshal_read.specs.Reader.{IsReader, Leads, Feeds}
+use Rattle.marshal_read.specs.Reader.{IsReader, LeadsReader, Feeds}
 use Rattle.marshal_read.specs.Reading.{RefusedIn}
-use Rattle.marshal_read.proofs.ReadingLemmas.{unless_memory}
-use Rattle.cmd_scan.specs.found.Parts.{AreRefused}
-use Rattle.cmd_scan.proofs.found.PrefixLemmas.{prefix_no_value, refused_no_prefix}
-use Rattle.cmd_scan.proofs.found.SomeLemmas.{value_last}
+use Rattle.marshal_read.proofs.ReaderReadingLemmas.{unless_memory}
+use Rattle.cmd_scan.specs.found_positions.InputParts.{AreRefused}
+use Rattle.cmd_scan.proofs.found_positions.FoundPositionPrefixLemmas.{prefix_no_value, refused_no_prefix}
+use Rattle.cmd_scan.proofs.found_positions.SomeLemmas.{value_last}
 use Rattle.cmd_scan.specs.declared.command.last.TakenBytes.{TakenBytes}
 use Rattle.cmd_scan.specs.command.Last.{IsDecided, IsRefusal, TakesByte, TakesBytes}
 
@@ -57,11 +57,11 @@ module _ (limit : ℕ) where
 
   pub prefix_taken :
       (bytes : List ℕ) (new : Reader) (fed : Fed) → Feeds limit [] bytes new fed
-      → IsPrefix limit bytes → Leads limit bytes new
+      → IsPrefix limit bytes → LeadsReader limit bytes new
   prefix_taken bytes new fed f prefix = by fed.done refl where
-    by : (done : Bool) → fed.done ≡ done → Leads limit bytes new
+    by : (done : Bool) → fed.done ≡ done → LeadsReader limit bytes new
     by false e =
-        subst (λ b. Leads limit b new) (take_all fed.taken bytes (omega (arith, (f.more e).0))) f.leads
+        subst (λ b. LeadsReader limit b new) (take_all fed.taken bytes (omega (arith, (f.more e).0))) f.leads
     by true e =
         let v = (f.done e).1 in
         absurd (prefix_no_value limit bytes prefix (take fed.taken bytes) (drop fed.taken bytes) v.0
@@ -87,7 +87,7 @@ module _ (limit : ℕ) where
         by false e =
             let more = f.more e in (
               reader,
-              subst (λ b. Leads limit (taken ++ b) new) (take_all fed.taken byte (omega (arith, more.0))) f.leads,
+              subst (λ b. LeadsReader limit (taken ++ b) new) (take_all fed.taken byte (omega (arith, more.0))) f.leads,
               more.1,
             )
         by true e = one_decides taken byte one prefix (none e)
@@ -140,7 +140,7 @@ module _ (limit : ℕ) where
         let m = f.more (sym decided ∙ e) in
         let all = sym (take_all t.bytes chunk (omega (arith, bytes, m.0))) in
         let same = ap (λ n. take n chunk) (sym bytes) in
-        (subst (λ b. IsPrefix limit (held ++ b)) all m.1, subst (λ b. Leads limit (held ++ b) new) same f.leads);
+        (subst (λ b. IsPrefix limit (held ++ b)) all m.1, subst (λ b. LeadsReader limit (held ++ b) new) same f.leads);
     last = λ e.
         let v = (f.done (sym decided ∙ e)).1 in
         let same = ap (λ n. held ++ take n chunk) (sym bytes) in

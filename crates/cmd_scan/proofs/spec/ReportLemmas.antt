@@ -1,16 +1,16 @@
 -- The output for a whole input is the lines of the input's positions.
 use Rattle.std.proofs.Common.{◌≡◌, ℕ, ◌+◌, List, [], ◌∷◌, ◌++◌, length, Option, inl, inr, refl, sym, ap, ◌∙◌, subst, append_assoc, append-nil}
 use Rattle.cli_spec.specs.Outcome.{at_end, Request, ending_of, Output, Reply, outputs, exits, Replies, replies, texts_of}
-use Rattle.cmd_scan.specs.found.Parts.{Part, bytes_of, BeginNoValue, AreParts}
-use Rattle.cmd_scan.specs.found.Positions.{Position, positions_of, ArePositions, lines_of}
-use Rattle.cmd_scan.proofs.found.OnceLemmas.{parts_once}
-use Rattle.cmd_scan.proofs.found.PositionLemmas.{lines_of_parts}
-use Rattle.cmd_scan.proofs.found.SomeLemmas.{bytes_of-append, parts-append, parts-before, parts-after, undecided}
+use Rattle.cmd_scan.specs.found_positions.InputParts.{InputPart, bytes_of, BeginNoValue, AreParts}
+use Rattle.cmd_scan.specs.found_positions.ValuePositions.{ValuePosition, positions_of, ArePositions, lines_of}
+use Rattle.cmd_scan.proofs.found_positions.FoundPositionOnceLemmas.{parts_once}
+use Rattle.cmd_scan.proofs.found_positions.FoundPositionLemmas.{lines_of_parts}
+use Rattle.cmd_scan.proofs.found_positions.SomeLemmas.{bytes_of-append, parts-append, parts-before, parts-after, undecided}
 use Rattle.run_spec.specs.runs.Commands.{Item, Split, AllPrint, IsLast}
-use Rattle.run_spec.proofs.runs.ValueLemmas.{texts_of-append, texts_of-one}
+use Rattle.run_spec.proofs.runs.RunValueLemmas.{texts_of-append, texts_of-one}
 use Rattle.cmd_scan.specs.spec.Laws.{ReportsPositions}
 use Rattle.cmd_scan.specs.spec.Searching.{bytes_in, IsFirstStretch, OutputsPositions, OutputsStretch, EndsWithPositions, searching}
-use Rattle.cmd_scan.proofs.spec.OutputLemmas.{bytes_in-snoc, same_bytes}
+use Rattle.cmd_scan.proofs.spec.ScanSpecOutputLemmas.{bytes_in-snoc, same_bytes}
 
 module _ (limit : ℕ) where
   -- No value begins at a byte that a stretch skips, whatever bytes follow the stretch.
@@ -33,11 +33,11 @@ module _ (limit : ℕ) where
       (parts-before limit h.parts more (stretch_parts bytes item more h)) in
       s.text_is ∙ ap (λ p. lines_of (positions_of (bytes_in items) p)) parts
 
-  module _ (limit_by : Request → Option ℕ) (last : List Part)
+  module _ (limit_by : Request → Option ℕ) (last : List InputPart)
       (last_are : AreParts limit (BeginNoValue limit) last []) where
     -- The bytes are valid parts, and `write` is the lines of the parts' positions.
     pub record HasAll (before : List Item) (bytes write : List ℕ) : Type 0 where
-      pub parts : List Part
+      pub parts : List InputPart
       pub bytes_are : bytes ≡ bytes_of parts
       pub are : AreParts limit (BeginNoValue limit) parts []
       pub write_is : write ≡ lines_of (positions_of (bytes_in before) parts)
@@ -96,7 +96,7 @@ module _ (limit : ℕ) where
 
 module _ (limit_by : Request → Option ℕ) where
   abbrev Reports : ℕ → List ℕ → Replies → Type 0
-  Reports limit input all = (positions : List Position) × ArePositions limit input positions
+  Reports limit input all = (positions : List ValuePosition) × ArePositions limit input positions
       × ((ending_of all).out ≡ lines_of positions)
 
   known :

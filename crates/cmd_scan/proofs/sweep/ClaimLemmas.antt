@@ -3,14 +3,14 @@ use Rattle.std.proofs.Common.{◌≡◌, ℕ, ◌+◌, ◌-◌, ◌<◌, ◌≤�
 use Rattle.std.specs.Prelude.{IsTrue, nat_lt}
 use Rattle.std.proofs.lemmas.Bool.Decides.{Decides-ltb}
 use Rattle.std.specs.List.{concat}
-use Rattle.marshal_read.proofs.HeadLemmas.{start_length}
+use Rattle.marshal_read.proofs.ReaderHeadLemmas.{start_length}
 use Rattle.base_data.specs.declared.model.header.Head.{Head}
 use Rattle.marshal_spec.specs.format.Header.{header_length, head_of}
 use Rattle.marshal_spec.specs.format.Encoded.{EncodedUnder}
 use Rattle.marshal_spec.specs.format.Tree.{Tree}
 use Rattle.marshal_spec.proofs.format.OneJudgement.{header_length-append}
 use Rattle.marshal_spec.proofs.format.TokenStepLemmas.{head_of-take}
-use Rattle.cmd_scan.specs.found.Parts.{BeginNoValue}
+use Rattle.cmd_scan.specs.found_positions.InputParts.{BeginNoValue}
 
 pub start_of :
     (bytes : List ℕ) (head : Head) (start : ℕ) → head ≡ head_of bytes

@@ -5,7 +5,7 @@ use Rattle.base_data.specs.declared.model.refusal.ReadRefusal.{ReadRefusal}
 use Rattle.base_data.specs.declared.model.refusal.ReadRefusal.TheVariants as refusals
 use Rattle.marshal_spec.specs.format.Prefix.{IsPrefix}
 use Rattle.marshal_read.specs.declared.reader.Reader.{Reader}
-use Rattle.marshal_read.specs.Reader.{IsReader, IsDone, Leads}
+use Rattle.marshal_read.specs.Reader.{IsReader, IsDone, LeadsReader}
 use Rattle.cmd_scan.specs.declared.command.last.TakenBytes.{TakenBytes}
 
 -- The last of the bytes decides what the bytes begin with.
@@ -25,7 +25,7 @@ IsRefusal refusal goes_on = (goes_on ≡ false) × (refusal ≢ refusals.Memory)
 -- error, memory ran out.
 abbrev pub TakesByte : {E : Type 0} → ℕ → List ℕ → List ℕ → Reader → Result Bool E → Type 0
 TakesByte limit taken byte new (Ok true) =
-    IsReader new × Leads limit (taken ++ byte) new × IsPrefix limit (taken ++ byte)
+    IsReader new × LeadsReader limit (taken ++ byte) new × IsPrefix limit (taken ++ byte)
 TakesByte limit taken byte new (Ok false) = IsDecided limit (taken ++ byte)
 TakesByte limit taken byte new (Err e) = Unit {0}
 
@@ -43,7 +43,7 @@ pub record TakesBytes (limit : ℕ) (held chunk : List ℕ) (new : Reader)
   pub some : 0 < t.bytes
   pub within : t.bytes ≤ length chunk
   pub more : t.decided ≡ false → IsPrefix limit (held ++ take t.bytes chunk)
-      × Leads limit (held ++ take t.bytes chunk) new
+      × LeadsReader limit (held ++ take t.bytes chunk) new
   pub last : t.decided ≡ true → IsDecided limit (held ++ take t.bytes chunk)
 
 -- Some bytes of the chunk are taken, or memory ran out.
@@ -53,7 +53,7 @@ ReadsSome limit held chunk new (Err e) = Unit {0}
 
 -- The reader holds a complete value, which these bytes encode.
 abbrev pub IsComplete : ℕ → List ℕ → Reader → Type 0
-IsComplete limit bytes reader = IsReader reader × IsDone reader × Leads limit bytes reader
+IsComplete limit bytes reader = IsReader reader × IsDone reader × LeadsReader limit bytes reader
 
 -- If these bytes are one value, then the reader holds the value.
 abbrev pub HasValue : ℕ → List ℕ → Reader → TakenBytes → Type 0

@@ -3,7 +3,7 @@ use Rattle.std.specs.Prelude.{ℕ, ◌≡◌, List, Option, Some, None}
 use Rattle.base_data.specs.model.Bytes.{AreBytes}
 use Rattle.cli_spec.specs.Outcome.{whole, Request, Replies, ending_of}
 use Rattle.run_spec.specs.command_sum.CommandSum.{IsIdleAt, AreDisjoint}
-use Rattle.cmd_scan.specs.found.Positions.{Position, ArePositions, lines_of}
+use Rattle.cmd_scan.specs.found_positions.ValuePositions.{ValuePosition, ArePositions, lines_of}
 use Rattle.run_spec.specs.runs.Commands.{Commands, Answers}
 use Rattle.cmd_scan.specs.spec.Searching.{searching}
 
@@ -17,7 +17,7 @@ module _ (limit_by : Request → Option ℕ) where
   abbrev pub ReportsPositions : Type 0
   ReportsPositions = (limit : ℕ) (input : List ℕ) (all : Replies) → AreBytes input
       → Answers (searching limit_by) limit (whole input) all
-      → (positions : List Position) × ArePositions limit input positions
+      → (positions : List ValuePosition) × ArePositions limit input positions
       × ((ending_of all).out ≡ lines_of positions)
 
   -- The command and a command set that does nothing for searches are disjoint.

@@ -6,8 +6,9 @@ use Rattle.std.specs.Prelude.{ℕ, ◌+◌, ◌≡◌, true, List, [], ◌∷◌
 use Rattle.std.specs.Prelude.{Ok}
 use Rattle.cli_spec.specs.Outcome.{Request, Output, Reply, outputs, exits}
 use Rattle.cli_spec.specs.declared.exit.Exit.{Exit}
-use Rattle.cmd_scan.specs.found.Parts.{Part, bytes_of, BeginNoValue, AreParts, IsStretch}
-use Rattle.cmd_scan.specs.found.Positions.{positions_of, lines_of}
+use Rattle.cmd_scan.specs.found_positions.InputParts.{InputPart, bytes_of, BeginNoValue, AreParts}
+use Rattle.cmd_scan.specs.found_positions.InputParts.{IsStretch}
+use Rattle.cmd_scan.specs.found_positions.ValuePositions.{positions_of, lines_of}
 use Rattle.run_spec.specs.runs.Commands.{Item, value, text, Fetches, Commands}
 
 -- The number of bytes in the items.
@@ -20,7 +21,7 @@ module _ (limit : ℕ) where
   -- The item consists of the parts of the first stretch. The bytes after the item are the stretch's
   -- prefix of a value and the bytes that follow the stretch.
   pub record IsFirstStretch (bytes : List ℕ) (item : Item) (more : List ℕ) : Type 0 where
-    pub parts : List Part
+    pub parts : List InputPart
     pub pending : List ℕ
     pub later : List ℕ
     pub is : item ≡ text (bytes_of parts)
@@ -30,7 +31,7 @@ module _ (limit : ℕ) where
 
   -- The output is the lines of the positions in these bytes, which follow the items.
   pub record OutputsPositions (items : List Item) (bytes : List ℕ) (output : Output) : Type 0 where
-    pub parts : List Part
+    pub parts : List InputPart
     pub bytes_are : bytes ≡ bytes_of parts
     pub are : AreParts limit (BeginNoValue limit) parts []
     pub text_is : output.text ≡ lines_of (positions_of (bytes_in items) parts)

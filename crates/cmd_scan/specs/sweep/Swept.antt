@@ -6,18 +6,19 @@ use Rattle.base_data.specs.declared.model.refusal.ReadRefusal.TheVariants as ref
 use Rattle.marshal_spec.specs.format.Prefix.{IsPrefix}
 use Rattle.marshal_heap.specs.heap.Heap.{heap_words}
 use Rattle.marshal_read.specs.declared.reader.Reader.{Reader}
-use Rattle.marshal_read.specs.declared.value.Value.{Value}
-use Rattle.marshal_read.specs.Reader.{Leads}
+use Rattle.marshal_read.specs.declared.returned_value.Value.{Value}
+use Rattle.marshal_read.specs.Reader.{LeadsReader}
 use Rattle.types_spec.specs.types.VerdictText.{kind_text}
-use Rattle.cmd_scan.specs.found.Parts.{Part, bytes_of, BeginNoValue, AreRefused, AreParts}
-use Rattle.cmd_scan.specs.found.Positions.{Position, positions_of, lines_of}
+use Rattle.cmd_scan.specs.found_positions.InputParts.{InputPart, bytes_of, BeginNoValue, AreRefused}
+use Rattle.cmd_scan.specs.found_positions.InputParts.{AreParts}
+use Rattle.cmd_scan.specs.found_positions.ValuePositions.{ValuePosition, positions_of, lines_of}
 use Rattle.cmd_scan.specs.declared.sweep.next_part.NextPart.{NextPart}
 use Rattle.cmd_scan.specs.declared.sweep.next_part.NextPart.TheVariants as nexts
 use Rattle.cmd_scan.specs.declared.sweep.next_part.NextPart.TheVariants.{Decided, Waits}
-use Rattle.cmd_scan.specs.declared.sweep.parts.Swept.{Swept}
+use Rattle.cmd_scan.specs.declared.sweep.input_parts.Swept.{Swept}
 
 -- The position of a value that was read from `size` bytes at offset `at`.
-abbrev pub position_read : ℕ → ℕ → Value → Position
+abbrev pub position_read : ℕ → ℕ → Value → ValuePosition
 position_read at size value = record {
   offset = at;
   size = size;
@@ -30,7 +31,7 @@ position_read at size value = record {
 -- appended. `at` is the offset of the bytes in the input.
 pub record WritesParts (limit : ℕ) (None : List ℕ → Type 0) (at : ℕ) (bytes rest old new : List ℕ)
     : Type 0 where
-  pub parts : List Part
+  pub parts : List InputPart
   pub bytes_are : bytes ≡ bytes_of parts ++ rest
   pub are : AreParts limit None parts rest
   pub text_is : new ≡ old ++ lines_of (positions_of at parts)
@@ -54,7 +55,7 @@ module _ (limit at : ℕ) (bytes old new : List ℕ) where
 
   -- The bytes may still become a value, and the reader has consumed them.
   abbrev pub AreWaiting : Reader → List ℕ → Type 0
-  AreWaiting reader prefix = IsPrefix limit prefix × Leads limit prefix reader
+  AreWaiting reader prefix = IsPrefix limit prefix × LeadsReader limit prefix reader
 
   -- Either determined parts are consumed, or the reader has taken all bytes, or memory ran out.
   abbrev pub IsNext : {E : Type 0} → Result NextPart E → Type 0

@@ -2,7 +2,7 @@
 
 ghost use Rattle.std.specs.Prelude.{◌≡◌, ◌<◌, ◌++◌, ℕ, List, [], length, take, IfOk};
 ghost use Rattle.marshal_spec.specs.format.Prefix.{IsPrefix};
-ghost use Rattle.marshal_read.specs.Reader.{IsReader, Leads};
+ghost use Rattle.marshal_read.specs.Reader.{IsReader, LeadsReader};
 ghost use Rattle.cmd_scan.specs.command.Last.{IsRefusal, TakesByte, FindsLast, ReadsSome};
 ghost use Rattle.cmd_scan.specs.command.Last.{HasValue};
 
@@ -14,8 +14,8 @@ use std::alloc::Global;
 /// Feeds a prefix of a value to a new reader again.
 pub fn take_prefix(reader: &mut Reader, bytes: &[u8]) -> Result<(), Memory>
     requires { IsReader reader.old }
-    ensures { (limit : ℕ) → Leads limit [] reader.old → IsPrefix limit bytes.now
-        → IfOk result (λ done. IsReader reader.new × Leads limit bytes.now reader.new) }
+    ensures { (limit : ℕ) → LeadsReader limit [] reader.old → IsPrefix limit bytes.now
+        → IfOk result (λ done. IsReader reader.new × LeadsReader limit bytes.now reader.new) }
 {
     match reader.feed(bytes) {
         Ok(_) => Ok(()),
@@ -38,7 +38,8 @@ fn is_decided(refusal: ReadRefusal) -> Result<bool, Memory>
 fn take_byte(reader: &mut Reader, byte: &[u8]) -> Result<bool, Memory>
     requires one { length byte.now ≡ 1 }
     requires reader { IsReader reader.old }
-    ensures { (limit : ℕ) (taken : List ℕ) → Leads limit taken reader.old → IsPrefix limit taken
+    ensures { (limit : ℕ) (taken : List ℕ) → LeadsReader limit taken reader.old
+        → IsPrefix limit taken
         → TakesByte limit taken byte.now reader.new result }
 {
     match reader.feed(byte) {
@@ -88,7 +89,7 @@ pub fn read_some(
 ) -> Result<TakenBytes, Memory>
     requires some { 0 < length chunk.now }
     requires prefix { IsPrefix limit held.now }
-    requires leads { Leads limit held.now reader.old }
+    requires leads { LeadsReader limit held.now reader.old }
     ensures some { ReadsSome limit held.now chunk.now reader.new result }
     ensures whole { IfOk result
         (λ t. HasValue limit (held.now ++ take t.bytes chunk.now) reader.new t) }

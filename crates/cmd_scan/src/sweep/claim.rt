@@ -1,7 +1,7 @@
 //! The data length that a header states.
 
 ghost use Rattle.std.specs.Prelude.{ℕ, ◌≡◌, IsTrue, if◌then◌else◌};
-ghost use Rattle.cmd_scan.specs.found.Parts.{BeginNoValue};
+ghost use Rattle.cmd_scan.specs.found_positions.InputParts.{BeginNoValue};
 
 use marshal_codec::headers::{Head, HeaderStep, parse};
 

@@ -4,7 +4,7 @@ ghost use Rattle.std.specs.Prelude.{◌<◌, length};
 ghost use Rattle.cmd_scan.specs.sweep.Swept.{PassesOne, IsNext, IsLastPart};
 
 use crate::sweep::claim::claims_more;
-use crate::sweep::line::write_value;
+use crate::sweep::position_line::write_value;
 use base_data::model::Memory;
 use base_data::model::refusal::ReadRefusal;
 use marshal_read::Reader;

@@ -5,17 +5,18 @@ use Rattle.base_data.specs.declared.model.value.Val.{Val}
 use Rattle.base_data.specs.declared.model.value.Obj.{Obj}
 use Rattle.cert_format.specs.declared.section.Section.{Section}
 use Rattle.base_io.specs.Sink.{Writes, WritesPart}
-use Rattle.base_io.specs.State.{ByteState, Change}
+use Rattle.base_io.specs.StreamState.{ByteState, Change}
 use Rattle.cli_spec.specs.Outcome.{line}
 use Rattle.cli_spec.specs.declared.exit.Exit.TheVariants.{Uncertified as uncertified_value}
-use Rattle.cli_errors.specs.declared.exit.Error.{Error}
-use Rattle.cli_errors.specs.declared.exit.Error.TheVariants as aborts
+use Rattle.cli_errors.specs.declared.exit_line.Error.{Error}
+use Rattle.cli_errors.specs.declared.exit_line.Error.TheVariants as aborts
 use Rattle.run_types.specs.Checked.{OrMemory}
 use Rattle.run_types.specs.Language.{TypeOver}
 use Rattle.cmd_verify.specs.spec.Verification.{Shown, shows, rejects}
-use Rattle.cmd_verify.specs.declared.command.judge.VerifiedValue.{VerifiedValue}
-use Rattle.cmd_verify.specs.declared.command.judge.VerifiedValue.TheVariants.{Line, Uncertified}
-use Rattle.cmd_verify.specs.command.Shown.{IsShownAt}
+use Rattle.cmd_verify.specs.declared.command.verified_value.VerifiedValue.{VerifiedValue}
+use Rattle.cmd_verify.specs.declared.command.verified_value.VerifiedValue.TheVariants.{Line}
+use Rattle.cmd_verify.specs.declared.command.verified_value.VerifiedValue.TheVariants.{Uncertified}
+use Rattle.cmd_verify.specs.command.VerifiedSections.{IsShownAt}
 
 -- The result for a value by one certificate entry.
 abbrev pub Judges : TypeOver → Section → List Obj → Val → VerifiedValue → Type 0

@@ -30,11 +30,12 @@ use Rattle.cli_spec.specs.declared.exit.Exit.{Exit}
 use Rattle.run_spec.specs.runs.Call.{Call}
 use Rattle.run_spec.specs.runs.Commands.{Fetches}
 use Rattle.run_spec.specs.exit_causes.Causes.{Tables}
-use Rattle.run_spec.specs.exit_statuses.Numbered.{HoldsOfAll, HoldsOfSome}
+use Rattle.run_spec.specs.exit_statuses.NumberedItems.{HoldsOfAll, HoldsOfSome}
 use Rattle.run_spec.specs.exit_statuses.Stages.{IsRefusedType}
 use Rattle.cmd_verify.specs.spec.Verification.{Shown, shows, Verification, IsShown, IsUncertified}
-use Rattle.cmd_verify.specs.spec.Verification.{Asked, typed_of, verified_by, ReadsSections, Wants}
-use Rattle.cmd_certify.specs.spec.Ends as ends
+use Rattle.cmd_verify.specs.spec.Verification.{VerifyArguments, typed_of, verified_by}
+use Rattle.cmd_verify.specs.spec.Verification.{ReadsSections, Wants}
+use Rattle.cmd_certify.specs.spec.RefusedEnd as ends
 
 module _ {T S : Type 0} (ShownBy : T → S → Tree → Shown → Type 0) (a : Verification T S) where
   -- The value has an entry that is accepted. `ok` states whether the entry proves the value to be
@@ -80,7 +81,7 @@ module _ {D T E S : Type 0} (language : Language D T E) (Reads : ReadsSections S
     (ShownBy : T → S → Tree → Shown → Type 0) where
   -- FILE is read, and the contents of FILE or the text TYPE are refused.
   pub record RefusesTypes (request : Request) (files : Fetches) : Type 0 where
-    pub asked : Asked
+    pub asked : VerifyArguments
     pub is_asked : verified_by request ≡ Some asked
     pub text : List ℕ
     pub read : files 0 asked.file ≡ opened (whole text)
@@ -88,7 +89,7 @@ module _ {D T E S : Type 0} (language : Language D T E) (Reads : ReadsSections S
 
   -- CERT is read in the second turn, and the contents of CERT are no certificate.
   pub record RefusesCertificate (request : Request) (files : Fetches) : Type 0 where
-    pub asked : Asked
+    pub asked : VerifyArguments
     pub is_asked : verified_by request ≡ Some asked
     pub type : T
     pub typed : ReadsTypeOf language (files 0) (typed_of asked) (Ok type)

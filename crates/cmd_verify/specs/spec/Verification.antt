@@ -2,7 +2,7 @@
 -- entry with the value's number proves something about the value.
 use Rattle.std.specs.Prelude.{ℕ, ◌≡◌, ◌⊎◌, Bool, if◌then◌else◌, nat_lt, List, [], ◌∷◌, ◌++◌, length}
 use Rattle.std.specs.Prelude.{slice_get, Option, Some, None, Result, Ok, codes}
-use Rattle.marshal_spec.specs.format.Stream.{EncodeAll, End}
+use Rattle.marshal_spec.specs.format.Stream.{EncodeAll, StreamEnd}
 use Rattle.marshal_spec.specs.format.Tree.{Tree}
 use Rattle.cli_spec.specs.Outcome.{Found, Request, AskedType, asked_type, own, verify, Output}
 use Rattle.cli_spec.specs.Outcome.{nothing_output, Reply, outputs, exits, line, Language, Then}
@@ -15,7 +15,7 @@ use Rattle.run_spec.specs.runs.Commands.{Item, value as value_item, Fetches, Com
 use Rattle.run_spec.specs.runs.Lawful.{IsOnce}
 use Rattle.run_spec.specs.runs.LawfulLanguage.{IsGiven}
 use Rattle.run_spec.specs.value_commands.Tasks.{IsFirstValue}
-use Rattle.cmd_certify.specs.spec.Ends as ends
+use Rattle.cmd_certify.specs.spec.RefusedEnd as ends
 
 -- What a certificate entry proves about a value at a type. `shows`: the output line for the value,
 -- and whether the value is without errors. `rejects`: the reason why the entry is rejected.
@@ -77,7 +77,7 @@ module _ {T S : Type 0} (ShownBy : T → S → Tree → Shown → Type 0) (a : V
   abbrev pub EndsClean : ℕ → Reply → Type 0
   EndsClean number last = last ≡ ends_sections number
 
-  abbrev pub EndsBy : ℕ → End → Reply → Type 0
+  abbrev pub EndsBy : ℕ → StreamEnd → Reply → Type 0
   EndsBy number end last = ends.EndsBy a.limit EndsClean number end last
 
   abbrev pub EndsHere : List Item → List ℕ → Reply → Type 0
@@ -86,16 +86,16 @@ module _ {T S : Type 0} (ShownBy : T → S → Tree → Shown → Type 0) (a : V
 -- ---- the files
 
 -- The parsed arguments, if a certificate is to be verified: FILE, TYPE, CERT and the limit.
-pub record Asked : Type 0 where
+pub record VerifyArguments : Type 0 where
   pub file : List ℕ
   pub type : AskedType
   pub certificate : List ℕ
   pub limit : ℕ
 
-abbrev pub typed_of : Asked → List ℕ × AskedType
+abbrev pub typed_of : VerifyArguments → List ℕ × AskedType
 typed_of asked = (asked.file, asked.type)
 
-abbrev pub verified_by : Request → Option Asked
+abbrev pub verified_by : Request → Option VerifyArguments
 verified_by (own (verify file type certificate lines reading)) =
     Some (record {
       file = file;
@@ -118,7 +118,8 @@ ReadsCertificateOf Reads files name =
 
 -- The file `name` is requested in this turn. FILE is requested in the first turn. If FILE and TYPE
 -- are valid, CERT is requested in the second turn.
-abbrev pub WantedIn : {D T E : Type 0} → Language D T E → Fetches → Asked → ℕ → List ℕ → Type 0
+abbrev pub WantedIn : {D T E : Type 0} → Language D T E → Fetches → VerifyArguments → ℕ → List ℕ
+    → Type 0
 WantedIn {T = T} language files asked turn name =
     ((turn ≡ 0) × (name ≡ asked.file))
     ⊎ ((turn ≡ 1) × (name ≡ asked.certificate)
@@ -126,7 +127,8 @@ WantedIn {T = T} language files asked turn name =
 
 -- FILE and TYPE are read first, and CERT is read second. The result contains the task or the exit
 -- reason.
-abbrev pub VerifiesBy : {D T E S : Type 0} → Language D T E → ReadsSections S → Fetches → Asked
+abbrev pub VerifiesBy : {D T E S : Type 0} → Language D T E → ReadsSections S → Fetches
+    → VerifyArguments
     → Result (Verification T S) Exit → Type 0
 VerifiesBy language Reads files asked =
     Then (ReadsTypeOf language (files 0) (typed_of asked)) (λ type.
@@ -139,12 +141,12 @@ module _ {D T E S : Type 0} (language : Language D T E) (Reads : ReadsSections S
     (ShownBy : T → S → Tree → Shown → Type 0) where
   abbrev pub Wants : Request → Fetches → ℕ → List ℕ → Type 0
   Wants request files turn name =
-      (asked : Asked) × (verified_by request ≡ Some asked)
+      (asked : VerifyArguments) × (verified_by request ≡ Some asked)
       × WantedIn language files asked turn name
 
   abbrev pub Finds : Request → Fetches → Result (Verification T S) Exit → Type 0
   Finds request files result =
-      (asked : Asked) × (verified_by request ≡ Some asked)
+      (asked : VerifyArguments) × (verified_by request ≡ Some asked)
       × VerifiesBy language Reads files asked result
 
   abbrev pub verifying : Commands (Verification T S)

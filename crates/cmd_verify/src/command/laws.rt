@@ -6,11 +6,11 @@ ghost use Rattle.text_path.specs.declared.edits.ScriptLine.{ScriptLine};
 ghost use Rattle.cert_format.specs.declared.section.Section.{Section};
 ghost use Rattle.run_types.specs.Language.{TypeOver, declared_types};
 ghost use Rattle.cmd_verify.specs.spec.Verification.{AreReadOnce};
-ghost use Rattle.cmd_verify.specs.command.Shown.{reads_sections, declared_sections};
+ghost use Rattle.cmd_verify.specs.command.VerifiedSections.{reads_sections, declared_sections};
 
 use crate::spec::laws::Verifies;
 use cert_format::texts_are_one;
-use cert_verify::agreement::laws::tables_verify_agree;
+use cert_verify::table_independence::laws::tables_verify_agree;
 
 /// The parameters of `verify` for certificates of values of declared types.
 pub struct DeclaredSections;

@@ -1,7 +1,7 @@
 //! The texts of the reasons why a certificate entry is rejected.
 
 ghost use Rattle.std.specs.Prelude.{◌≡◌, ◌++◌, codes, decimal, IfOk, OnOk, string_bytes};
-ghost use Rattle.cmd_verify.specs.command.Shown.{why_text};
+ghost use Rattle.cmd_verify.specs.command.VerifiedSections.{why_text};
 
 use base_data::model::Memory;
 use base_data::text::write;

@@ -20,7 +20,7 @@ use Rattle.marshal_spec.specs.format.Token.{Token, integer, shared, block, leaf,
 use Rattle.marshal_spec.specs.format.Tree.{RefersBack}
 use Rattle.marshal_spec.specs.format.Encoded.{IsNoReference}
 use Rattle.marshal_spec.proofs.format.RawLemmas.{fields_fit, sizing_fits, raw_length-append, raw_measure-take}
-use Rattle.marshal_spec.proofs.format.StepLemmas.{first_refusal-decided, EndWithin-high}
+use Rattle.marshal_spec.proofs.format.FormatStepLemmas.{first_refusal-decided, EndWithin-high}
 use Rattle.marshal_spec.proofs.format.TokenStepLemmas.{token_steps-take, token_steps-ok, token_steps-within}
 use Rattle.marshal_spec.proofs.format.EncodeFacts.{none_from_room}
 use Rattle.marshal_spec.proofs.format.EncodeFields.{IsKnownData, IsTokenThere, sound_of}
@@ -28,9 +28,9 @@ use Rattle.marshal_spec.proofs.format.EncodeLemmas.{encoded_length, encoded_meas
 use Rattle.marshal_codec.specs.declared.token.summary.Summary.{Summary}
 use Rattle.marshal_codec.specs.declared.token.summary.Summary.TheVariants as summaries
 use Rattle.marshal_codec.specs.token.Summary.{IsSummary, IsSummaryBy, summary_measure}
-use Rattle.marshal_codec.specs.token.Complete.{reference_refusal, closing, remaining_steps}
+use Rattle.marshal_codec.specs.token.RemainingSteps.{reference_refusal, closing, remaining_steps}
 use Rattle.marshal_codec.proofs.token.SummaryLemmas.{measured}
-use Rattle.marshal_codec.proofs.token.FaultLemmas.{after_pass}
+use Rattle.marshal_codec.proofs.token.TokenFaultLemmas.{after_pass}
 
 -- ---- the fields of a token
 

@@ -19,10 +19,10 @@ use Rattle.marshal_spec.proofs.format.EncodeFields.{AreSoundFields, IsKnownData,
 use Rattle.marshal_spec.proofs.format.ContentLemmas.{EncodesData, data_at}
 use Rattle.marshal_codec.specs.declared.token.summary.Summary.{Summary}
 use Rattle.marshal_codec.specs.declared.token.summary.Summary.TheVariants as summaries
-use Rattle.marshal_codec.specs.declared.token.fault.TokenFault.{TokenFault}
-use Rattle.marshal_codec.specs.declared.token.fault.TokenFault.TheVariants as faults
+use Rattle.marshal_codec.specs.declared.token.token_fault.TokenFault.{TokenFault}
+use Rattle.marshal_codec.specs.declared.token.token_fault.TokenFault.TheVariants as faults
 use Rattle.marshal_codec.specs.token.Summary.{custom_leaf, IsSummary, IsSummaryAfter, IsSummaryBy, custom_measure, summary_measure}
-use Rattle.marshal_codec.specs.token.Fault.{fault_if, integer_fault, custom_fault}
+use Rattle.marshal_codec.specs.token.TokenFault.{fault_if, integer_fault, custom_fault}
 
 -- ---- no fault
 

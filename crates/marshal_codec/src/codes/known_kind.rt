@@ -1,7 +1,7 @@
 //! The kind of a token, with the bounds on its numbers.
 
 ghost use Rattle.marshal_spec.specs.format.Code.{IsKind};
-ghost use Rattle.marshal_codec.specs.codes.Known.{IsKind-prop};
+ghost use Rattle.marshal_codec.specs.codes.KnownKinds.{IsKind-prop};
 
 use base_data::model::code::CodeKind;
 

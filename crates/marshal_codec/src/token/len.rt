@@ -8,7 +8,7 @@ ghost use Rattle.marshal_spec.specs.format.Raw.{fixed_bytes, field_bytes, variab
 ghost use Rattle.marshal_spec.specs.format.Raw.{custom_bytes};
 
 use crate::customs::ident;
-use crate::token::number::number_of;
+use crate::token::token_number::number_of;
 use base_data::model::code::{CodeKind, CustomKind};
 
 /// Returns the number of bytes that every token of the kind has after its code.

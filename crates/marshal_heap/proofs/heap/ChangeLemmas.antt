@@ -13,9 +13,9 @@ use Rattle.base_data.specs.declared.model.value.Obj.TheVariants as objects
 use Rattle.base_data.specs.model.Graph.{IsObject, IsGraph}
 use Rattle.marshal_heap.specs.heap.Heap.{object_at, object_words, heap_words, position, IsSmall, IsHeap, word_with, fields_of}
 use Rattle.marshal_heap.specs.heap.Stored.{encode, positions_of, decode, IsStored}
-use Rattle.marshal_heap.specs.heap.Words.{tag_of, header, header_of, body_with, code_with}
+use Rattle.marshal_heap.specs.heap.ObjectWords.{tag_of, header, header_of, body_with, code_with}
 use Rattle.marshal_heap.proofs.heap.HeapLemmas.{IsObject-more, Replaces, IsHeap-set, IsHeap-take}
-use Rattle.marshal_heap.proofs.heap.PositionLemmas.{position_is, position-append, position-all, position-set, position_inside, two_words}
+use Rattle.marshal_heap.proofs.heap.HeapPositionLemmas.{position_is, position-append, position-all, position-set, position_inside, two_words}
 use Rattle.marshal_heap.proofs.heap.WordLemmas.{map_same}
 use Rattle.marshal_heap.proofs.heap.CodeLemmas.{length-code, length-encode, code-more, encode-append, encode-set, words_in, word_in, body_in}
 use Rattle.marshal_heap.proofs.heap.StoredLemmas.{Holds, held, seen, stored, length-positions_of, get_or-positions_of, tag_small, header_in}

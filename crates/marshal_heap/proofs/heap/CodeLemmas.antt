@@ -13,10 +13,10 @@ use Rattle.base_data.specs.declared.model.value.Obj.TheVariants as objects
 use Rattle.base_data.specs.model.Graph.{IsValue, IsObject, IsGraph}
 use Rattle.marshal_heap.specs.heap.Heap.{object_at, object_words, heap_words, position, word_with}
 use Rattle.marshal_heap.specs.heap.Stored.{encode}
-use Rattle.marshal_heap.specs.heap.Words.{tag_of, body_with, code_with, header}
-use Rattle.marshal_heap.proofs.heap.PositionLemmas.{position_is, position-append, position-set}
+use Rattle.marshal_heap.specs.heap.ObjectWords.{tag_of, body_with, code_with, header}
+use Rattle.marshal_heap.proofs.heap.HeapPositionLemmas.{position_is, position-append, position-set}
 use Rattle.marshal_heap.proofs.heap.WordLemmas.{map_same}
-use Rattle.marshal_heap.proofs.heap.StringLemmas.{length-string_words}
+use Rattle.marshal_heap.proofs.heap.HeapStringLemmas.{length-string_words}
 
 -- The code of an object has as many words as the object.
 pub length-code : (at : ℕ → ℕ) (object : Obj) → length (code_with at object) ≡ object_words object

@@ -15,9 +15,9 @@ use Rattle.base_data.specs.model.Graph.{IsSigned, IsValue, IsObject}
 use Rattle.marshal_heap.specs.declared.heap.kind.Kind.TheVariants as kinds
 use Rattle.marshal_heap.specs.heap.Heap.{object_at, object_words, word_with, custom_object, fields_of, bytes_of, doubles_of, with_field, with_byte, with_double, kind_of}
 use Rattle.marshal_heap.specs.heap.Stored.{kind_from, signed_from}
-use Rattle.marshal_heap.specs.heap.Words.{tag_of, header, body_with, code_with, custom_words, string_words, word_of_bytes, bytes_of_word}
+use Rattle.marshal_heap.specs.heap.ObjectWords.{tag_of, header, body_with, code_with, custom_words, string_words, word_of_bytes, bytes_of_word}
 use Rattle.marshal_heap.proofs.heap.WordLemmas.{signed_back}
-use Rattle.marshal_heap.proofs.heap.StringLemmas.{string_words-set, string_length_is}
+use Rattle.marshal_heap.proofs.heap.HeapStringLemmas.{string_words-set, string_length_is}
 use Rattle.marshal_heap.proofs.heap.StoredLemmas.{other_tags, wider}
 
 -- An object that can be appended to `n` objects, with the words after the object's header.

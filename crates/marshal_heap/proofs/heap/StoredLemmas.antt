@@ -11,10 +11,10 @@ use Rattle.base_data.specs.declared.model.value.Obj.TheVariants as objects
 use Rattle.base_data.specs.model.Graph.{IsSigned, IsValue, IsObject, IsGraph}
 use Rattle.marshal_heap.specs.heap.Heap.{object_at, position, word_with, IsSmall, IsHeap}
 use Rattle.marshal_heap.specs.heap.Stored.{encode, positions_of, value_from, object_from, object_in, decode, IsStored}
-use Rattle.marshal_heap.specs.heap.Words.{tag_of, header, body_with}
-use Rattle.marshal_heap.proofs.heap.PositionLemmas.{same_from_position, two_words}
+use Rattle.marshal_heap.specs.heap.ObjectWords.{tag_of, header, body_with}
+use Rattle.marshal_heap.proofs.heap.HeapPositionLemmas.{same_from_position, two_words}
 use Rattle.marshal_heap.proofs.heap.WordLemmas.{map_back, value_back, signed_back}
-use Rattle.marshal_heap.proofs.heap.StringLemmas.{bytes_back}
+use Rattle.marshal_heap.proofs.heap.HeapStringLemmas.{bytes_back}
 use Rattle.marshal_heap.proofs.heap.CodeLemmas.{word_in, body_in}
 
 -- A graph has one header offset for each object.

@@ -9,7 +9,7 @@ use Rattle.base_data.specs.declared.model.value.Val.TheVariants as vals
 use Rattle.base_data.specs.model.Graph.{IsSigned, IsInteger, IsValue}
 use Rattle.marshal_heap.specs.heap.Heap.{integer_word, word_with}
 use Rattle.marshal_heap.specs.heap.Stored.{signed_from, integer_from, value_from}
-use Rattle.marshal_heap.specs.heap.Words.{signed_word}
+use Rattle.marshal_heap.specs.heap.ObjectWords.{signed_word}
 
 -- If two functions agree on each element of a list, then the mapped lists are equal.
 pub map_same : {X Y : Type 0} (f g : X → Y) (xs : List X) → All (λ x. f x ≡ g x) xs → map f xs ≡ map g xs

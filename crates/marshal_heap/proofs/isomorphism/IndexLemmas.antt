@@ -10,7 +10,7 @@ use Rattle.base_data.proofs.model.Options.{slice_get-Contains, same_or_not}
 use Rattle.base_data.proofs.model.Lists.{slice_get-append_left}
 use Rattle.marshal_heap.specs.isomorphism.Paired.{left_of, right_of, IsNew, IsIndex}
 use Rattle.marshal_heap.specs.isomorphism.Meeting.{AreOneToOne, AreMet, CannotMeet}
-use Rattle.marshal_spec.proofs.canonical.ListLemmas.{slice_get_push, slice_get_push_cases}
+use Rattle.marshal_spec.proofs.canonical.CanonicalListLemmas.{slice_get_push, slice_get_push_cases}
 
 -- ---- consequences of an index
 

@@ -11,7 +11,7 @@ use Rattle.base_data.specs.declared.model.code.Custom.TheVariants as customs
 use Rattle.marshal_heap.specs.declared.heap.kind.Kind.{Kind}
 use Rattle.marshal_heap.specs.declared.heap.kind.Kind.TheVariants as kinds
 use Rattle.marshal_heap.specs.heap.Heap.{position, custom_object, IsHeap}
-use Rattle.marshal_heap.specs.heap.Words.{code_with, byte_in}
+use Rattle.marshal_heap.specs.heap.ObjectWords.{code_with, byte_in}
 
 -- All words of a graph, one object after another.
 unfoldable pub encode : List Obj → List ℕ

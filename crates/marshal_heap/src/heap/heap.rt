@@ -16,17 +16,17 @@ ghost use Rattle.marshal_heap.specs.heap.Heap.{kind_of, IsOfKind, IsHeap, Append
 ghost use Rattle.marshal_heap.specs.heap.Heap.{object_words, heap_words, IsBlock, position};
 ghost use Rattle.marshal_heap.specs.heap.Heap.{word_of, key_of};
 ghost use Rattle.marshal_heap.specs.heap.Heap.{IsFieldWord, IsReferenceWord, ForNamed};
-ghost use Rattle.marshal_heap.specs.heap.Words.{header_of, body_of};
+ghost use Rattle.marshal_heap.specs.heap.ObjectWords.{header_of, body_of};
 
 use crate::arena::region::Region;
 use crate::heap::kind::Kind;
+use crate::heap::object_words::{
+    CUSTOM, DOUBLE, DOUBLES, STRING, header_word, integer_of_word, kind_of_words, word_of_integer,
+};
 use crate::heap::objects::{
     append_copy, append_custom, append_fields, begin, begin_in_room, body_in,
 };
 use crate::heap::strings::{append_string, append_zeros, with_byte};
-use crate::heap::words::{
-    CUSTOM, DOUBLE, DOUBLES, STRING, header_word, integer_of_word, kind_of_words, word_of_integer,
-};
 use crate::offsets::offset_list::OffsetList;
 use base_data::model::Memory;
 use base_data::model::code::Custom;

@@ -4,10 +4,10 @@ ghost use Rattle.std.specs.Prelude.{◌≡◌, ◌+◌, ◌/◌, ◌<◌, ◌≤
 ghost use Rattle.std.specs.Prelude.{drop, replicate, All, MatchResult, MatchBool, OnOk};
 ghost use Rattle.std.specs.Prelude.{slice_index, slice_range};
 ghost use Rattle.std.specs.Bool.{OnTrue};
-ghost use Rattle.marshal_heap.specs.heap.Words.{custom_words};
+ghost use Rattle.marshal_heap.specs.heap.ObjectWords.{custom_words};
 
 use crate::arena::region::Region;
-use crate::heap::words::word_of_signed;
+use crate::heap::object_words::word_of_signed;
 use crate::offsets::offset_list::OffsetList;
 use base_data::model::Memory;
 use base_data::model::code::Custom;

@@ -4,8 +4,8 @@
 ghost use Rattle.std.specs.Prelude.{◌≡◌, ◌+◌, ◌-◌, ◌*◌, ◌/◌, ◌%◌, ◌^◌, ◌<◌, ◌≤◌, [], ◌∷◌, ◌++◌};
 ghost use Rattle.std.specs.Prelude.{length, take, drop, replicate, slice_set};
 ghost use Rattle.marshal_heap.specs.heap.Stored.{string_length};
-ghost use Rattle.marshal_heap.specs.heap.Words.{word_of_bytes, bytes_of_word, string_words};
-ghost use Rattle.marshal_heap.specs.heap.Words.{byte_in};
+ghost use Rattle.marshal_heap.specs.heap.ObjectWords.{word_of_bytes, bytes_of_word, string_words};
+ghost use Rattle.marshal_heap.specs.heap.ObjectWords.{byte_in};
 
 use crate::arena::region::Region;
 
@@ -46,7 +46,7 @@ fn whole_word(content: &[u8], j: usize) -> u64
 /// Returns the last word of a string, which contains the string's remaining bytes. Each number of
 /// remaining bytes has code of its own, because a loop would be compiled to a call that copies
 /// memory.
-#[tactic(auto, unfolding(crate::specs::heap::Words::word_of_bytes))]
+#[tactic(auto, unfolding(crate::specs::heap::ObjectWords::word_of_bytes))]
 #[inline(always)]
 fn last_word(rest: &[u8]) -> u64
     requires { length rest.now < 8 }
@@ -80,7 +80,7 @@ pub fn string_len(words: &[u64]) -> u64
 }
 
 /// Returns byte `i` of the string that these words store.
-#[tactic(auto, unfolding(crate::specs::heap::Words::word_of_bytes, crate::specs::heap::Words::bytes_of_word))]
+#[tactic(auto, unfolding(crate::specs::heap::ObjectWords::word_of_bytes, crate::specs::heap::ObjectWords::bytes_of_word))]
 pub fn byte_of(words: &[u64], i: usize) -> u8
     requires { i / 8 < length words.now }
     ensures { result ≡ byte_in words.now i }
@@ -89,7 +89,7 @@ pub fn byte_of(words: &[u64], i: usize) -> u8
 }
 
 /// Returns the word with byte `k` replaced by `b`.
-#[tactic(auto, unfolding(crate::specs::heap::Words::word_of_bytes, crate::specs::heap::Words::bytes_of_word))]
+#[tactic(auto, unfolding(crate::specs::heap::ObjectWords::word_of_bytes, crate::specs::heap::ObjectWords::bytes_of_word))]
 pub fn with_byte(word: u64, k: usize, b: u8) -> u64
     requires { k < 8 }
     ensures { result ≡ word_of_bytes (slice_set (bytes_of_word word) k b) }

@@ -8,8 +8,8 @@ ghost use Rattle.marshal_heap.specs.heap.Heap.{object_at, fields_of};
 ghost use Rattle.marshal_heap.specs.isomorphism.Meeting.{Meets};
 
 use crate::heap::{Heap, Kind};
-use crate::isomorphism::content::{same_bytes, same_doubles, same_kind};
 use crate::isomorphism::pairing::Pairing;
+use crate::isomorphism::same_contents::{same_bytes, same_doubles, same_kind};
 use base_data::model::Memory;
 use base_data::model::value::Val;
 use std::alloc::Global;

@@ -16,9 +16,9 @@ use Rattle.marshal_spec.specs.format.Encoded.{StatesWords32, EncodedUnder}
 use Rattle.marshal_spec.specs.format.Canonical.{is_signed, signed_bytes, double_bytes, wide_integer, integer_encoding, block_word, block_encoding, string_prefix, shared_encoding, doubles_prefix, custom_encoding, leaf_encoding, encoding, header_encoding, data_encoding, is_big, canon}
 use Rattle.marshal_spec.proofs.format.Counts.{length-object_of, objects-tokens, trees_in-le}
 use Rattle.marshal_spec.specs.canonical.Laws.{LeafHasEncoding, HasEncoding}
-use Rattle.marshal_spec.proofs.canonical.ListLemmas.{AllZip-append}
+use Rattle.marshal_spec.proofs.canonical.CanonicalListLemmas.{AllZip-append}
 use Rattle.marshal_spec.proofs.canonical.EncodingLemmas.{encoding_encodes_lem}
-use Rattle.marshal_spec.proofs.canonical.HeaderLemmas.{EncodesHead, small_bytes, big_bytes, small_head_encoded, small_w32_encoded, big_head_encoded}
+use Rattle.marshal_spec.proofs.canonical.CanonicalHeaderLemmas.{EncodesHead, small_bytes, big_bytes, small_head_encoded, small_w32_encoded, big_head_encoded}
 
 -- ---- an encoding has at least one byte
 

@@ -10,7 +10,7 @@ use Rattle.base_data.specs.declared.model.value.Obj.{Obj}
 use Rattle.base_data.specs.declared.model.value.Obj.TheVariants as objects
 use Rattle.base_data.specs.model.Graph.{IsValue, IsObject, IsGraph}
 use Rattle.marshal_spec.specs.format.Isomorphism.{Agree, AgreeObjects, IsPairing, Isomorphism}
-use Rattle.marshal_spec.proofs.canonical.ListLemmas.{Contains-cond, cond-Contains, below, Contains-below, below-Contains, AllZip-weaker, AllZip-swapped, AllZip-composed, AllZip-same}
+use Rattle.marshal_spec.proofs.canonical.CanonicalListLemmas.{Contains-cond, cond-Contains, below, Contains-below, below-Contains, AllZip-weaker, AllZip-swapped, AllZip-composed, AllZip-same}
 
 -- ---- more pairs
 

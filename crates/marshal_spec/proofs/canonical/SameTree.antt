@@ -13,7 +13,7 @@ use Rattle.marshal_spec.specs.format.Tree.{Tree, Forest, node, none, more, trees
 use Rattle.marshal_spec.specs.format.Isomorphism.{Agree, AgreeObjects, IsPairing, IsTreeOf}
 use Rattle.marshal_spec.proofs.format.Counts.{leaf_fields, length-object_of, length-objects_of}
 pub use Rattle.marshal_spec.proofs.format.Counts.{made_by_leaf}
-use Rattle.marshal_spec.proofs.canonical.ListLemmas.{slice_get_right}
+use Rattle.marshal_spec.proofs.canonical.CanonicalListLemmas.{slice_get_right}
 use Rattle.marshal_spec.proofs.canonical.IsomorphismLemmas.{objects_of_pair, same_symmetric, same_transitive}
 
 -- ---- objects at a position

@@ -11,7 +11,7 @@ use Rattle.marshal_spec.specs.format.Token.{Token, integer, atom, shared, block,
 use Rattle.marshal_spec.specs.format.Tree.{Tree, Forest, node, none, more, IsTree, AreTrees, root, roots, made, made_by, all_made, object_of, objects_of, all_objects, ReferBack, AllReferBack}
 use Rattle.marshal_spec.specs.format.Isomorphism.{Isomorphism, IsTreeOf}
 use Rattle.marshal_spec.proofs.format.Counts.{length-objects_of, length-roots}
-use Rattle.marshal_spec.proofs.format.RootLemmas.{root_is_value}
+use Rattle.marshal_spec.proofs.format.FormatRootLemmas.{root_is_value}
 use Rattle.marshal_spec.proofs.canonical.IsomorphismLemmas.{same_reflexive}
 use Rattle.marshal_spec.proofs.canonical.SameTree.{made_by_leaf}
 

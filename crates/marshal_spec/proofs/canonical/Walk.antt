@@ -19,7 +19,7 @@ use Rattle.marshal_spec.specs.format.Isomorphism.{Agree, AgreeObjects, IsPairing
 use Rattle.marshal_spec.proofs.format.Counts.{leaf_fields}
 use Rattle.marshal_spec.specs.canonical.Laws.{HasOneTree}
 use Rattle.marshal_spec.specs.canonical.Numbering.{pairs_from, numbered, AreDistinct, Shows, IsNumbering}
-use Rattle.marshal_spec.proofs.canonical.ListLemmas.{IsSomeAnd-weaker, slice_get_push, slice_get_push_cases, below, Contains-below, AllZip-weaker, AllZip-append, AllZip-at}
+use Rattle.marshal_spec.proofs.canonical.CanonicalListLemmas.{IsSomeAnd-weaker, slice_get_push, slice_get_push_cases, below, Contains-below, AllZip-weaker, AllZip-append, AllZip-at}
 use Rattle.marshal_spec.proofs.canonical.IsomorphismLemmas.{AreAmong, Agree-more, AgreeObjects-more, agree_at}
 use Rattle.marshal_spec.proofs.canonical.SameTree.{made_by_leaf, one_tree_only}
 

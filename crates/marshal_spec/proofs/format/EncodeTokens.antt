@@ -24,7 +24,7 @@ use Rattle.std.proofs.lemmas.List.Sums.{sum_by_push}
 use Rattle.marshal_spec.proofs.format.Pending.{pending_push}
 use Rattle.marshal_spec.proofs.format.EncodeLemmas.{encoded_length}
 use Rattle.marshal_spec.proofs.format.EncodeSteps.{steps_pass}
-use Rattle.marshal_spec.proofs.format.KindLemmas.{InRange, kind_of-in_range}
+use Rattle.marshal_spec.proofs.format.FormatKindLemmas.{InRange, kind_of-in_range}
 use Rattle.marshal_spec.proofs.format.EncodeFields.{AreSoundFields, IsTokenThere, encoded_of, sound_of}
 use Rattle.marshal_spec.proofs.format.EncodeFacts.{VariableFits, token_length, up_to, TokenFacts, facts_from_none, none_from_facts}
 

@@ -9,7 +9,7 @@ use Rattle.marshal_spec.specs.format.Judgement.{Judgement, prefix, value, refuse
 use Rattle.marshal_spec.specs.format.Laws.{HasOneJudgement}
 use Rattle.marshal_spec.proofs.format.OneJudgement.{Closed, prefix_or_closed, prefix_or_refused, closed_or_refused, closed_at_once, refused_at_once}
 use Rattle.marshal_spec.proofs.format.EncodeTrees.{PassesWhole, PassesWhole-encoded, tree-same}
-use Rattle.marshal_spec.proofs.format.StandLemmas.{Judges-some}
+use Rattle.marshal_spec.proofs.format.FormatStandLemmas.{Judges-some}
 use Rattle.marshal_spec.proofs.format.TokenStepLemmas.{header_length-from}
 
 -- An encoded value has at least one byte.

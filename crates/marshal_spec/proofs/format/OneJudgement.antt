@@ -11,8 +11,8 @@ use Rattle.marshal_spec.specs.format.Header.{header_length}
 use Rattle.marshal_spec.specs.format.Prefix.{token_refusal, header_refusal, IsOpen, TokenPasses, TokensPass, HeaderPasses, InHeader, InTokens, IsPrefix, RefusedInHeader, RefusedInTokens, IsRefused}
 use Rattle.marshal_spec.proofs.format.RawLemmas.{same_prefix, prefix_within, not_in_part, part_shorter}
 use Rattle.marshal_spec.proofs.format.TokenStepLemmas.{header_length-take, header_length-from}
-use Rattle.marshal_spec.proofs.format.NextLemmas.{token_refusal-append, header_refusal-append}
-use Rattle.marshal_spec.proofs.format.ReadingLemmas.{GoesOn, GoesOn-passes, readings}
+use Rattle.marshal_spec.proofs.format.FormatNextLemmas.{token_refusal-append, header_refusal-append}
+use Rattle.marshal_spec.proofs.format.FormatReadingLemmas.{GoesOn, GoesOn-passes, readings}
 
 -- A header and the tokens of one value, all of which pass.
 pub record Closed (limit : ℕ) (bytes header : List ℕ) (chunks : List (List ℕ)) : Type 0 where

@@ -20,7 +20,7 @@ use Rattle.marshal_spec.specs.format.Header.{magic, big_magic, header_length, he
 use Rattle.marshal_spec.specs.format.Words.{Sums, one_more}
 use Rattle.marshal_spec.specs.format.Step.{Step, step, Context, position, overlong, fails_if, field_refusal, native_steps, variable_steps, words32_refusal, words64_refusal, end_steps, header_steps, magic_refusal, length_limit, code_refusal, steps_after, steps_from, token_steps, first_refusal, integer_refusal}
 use Rattle.marshal_spec.proofs.format.RawLemmas.{fields_fit, sizing_fits, fields_first, custom_take, sizing_bytes-take, measure_after-take, variable_bytes-take}
-use Rattle.marshal_spec.proofs.format.StepLemmas.{EndWithin, EndWithin-append, AgreeUpTo, agree_same, agree_refuses}
+use Rattle.marshal_spec.proofs.format.FormatStepLemmas.{EndWithin, EndWithin-append, AgreeUpTo, agree_same, agree_refuses}
 
 -- ---- a kind, with the first `m` bytes after the code
 

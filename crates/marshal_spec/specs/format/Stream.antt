@@ -15,18 +15,18 @@ EncodeAll limit bytes (tree ∷ trees) rest =
 
 -- What follows the last value of a stream: no bytes, refused bytes, or `n` bytes of a truncated
 -- value.
-pub data End : Type 0 where
-  clean : End
-  refused : ReadRefusal → End
-  cut : ℕ → End
+pub data StreamEnd : Type 0 where
+  clean : StreamEnd
+  refused : ReadRefusal → StreamEnd
+  cut : ℕ → StreamEnd
 
-abbrev pub IsTail : ℕ → List ℕ → End → Type 0
+abbrev pub IsTail : ℕ → List ℕ → StreamEnd → Type 0
 IsTail limit tail clean = tail ≡ []
 IsTail limit tail (refused refusal) =
     (n : ℕ) × (n ≤ length tail) × IsRefused limit (take n tail) refusal
 IsTail limit tail (cut n) = (0 < n) × (length tail ≡ n) × IsPrefix limit tail
 
 -- The bytes are the encodings of the trees, followed by a tail that ends as `end` states.
-abbrev pub Stream : List ℕ → ℕ → List Tree → End → Type 0
+abbrev pub Stream : List ℕ → ℕ → List Tree → StreamEnd → Type 0
 Stream bytes limit trees end =
     (tail : List ℕ) × EncodeAll limit bytes trees tail × IsTail limit tail end

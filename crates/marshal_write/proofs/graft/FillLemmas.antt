@@ -12,7 +12,7 @@ use Rattle.base_data.specs.model.Graph.{IsValue}
 use Rattle.marshal_heap.specs.declared.heap.kind.Kind.{Kind}
 use Rattle.marshal_heap.specs.declared.heap.kind.Kind.TheVariants as kinds
 use Rattle.marshal_heap.specs.heap.Heap.{object_at, fields_of, with_field, set_field, kind_of}
-use Rattle.marshal_heap.proofs.heap.WriteLemmas.{fill_next}
+use Rattle.marshal_heap.proofs.heap.HeapWriteLemmas.{fill_next}
 use Rattle.marshal_write.specs.graft.Renamed.{blank, blanks, renamed_value, renamed_object, renamed, IsMet}
 
 abbrev zero_field : Val

@@ -14,7 +14,7 @@ use Rattle.marshal_spec.specs.format.Isomorphism.{Agree, AgreeObjects, IsTreeOf}
 use Rattle.marshal_heap.specs.heap.Heap.{object_at}
 use Rattle.marshal_spec.specs.canonical.Numbering.{numbered, Shows, IsNumbering}
 use Rattle.marshal_spec.proofs.canonical.Walk.{at_numbered}
-use Rattle.marshal_write.specs.write.Walking.{AreMarked}
+use Rattle.marshal_write.specs.write.WriteWalk.{AreMarked}
 use Rattle.marshal_write.specs.graft.Copies.{IsCopy}
 use Rattle.marshal_write.specs.graft.Renamed.{renamed_value, renamed_object, renamed}
 use Rattle.marshal_write.proofs.graft.ShiftLemmas.{later_value, later_object, root_later, objects_later}

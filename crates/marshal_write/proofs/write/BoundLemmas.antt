@@ -12,7 +12,7 @@ use Rattle.base_data.specs.declared.model.value.Obj.TheVariants as objects
 use Rattle.marshal_spec.specs.format.Isomorphism.{AgreeObjects}
 use Rattle.marshal_spec.specs.format.Tree.{Tree, objects_of}
 use Rattle.marshal_spec.specs.canonical.Numbering.{numbered, AreDistinct, Shows, IsNumbering}
-use Rattle.marshal_spec.proofs.canonical.ListLemmas.{AllZip-at}
+use Rattle.marshal_spec.proofs.canonical.CanonicalListLemmas.{AllZip-at}
 use Rattle.marshal_heap.specs.heap.Heap.{object_at, object_words, heap_words}
 
 -- ---- sums over distinct numbers

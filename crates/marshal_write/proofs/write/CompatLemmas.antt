@@ -9,7 +9,7 @@ use Rattle.marshal_spec.specs.format.Tree.{Tree, tokens}
 use Rattle.base_data.specs.declared.model.header.Head.{Head}
 use Rattle.marshal_write.specs.write.Reports.{Reports}
 use Rattle.marshal_write.specs.declared.write.compat.Compat.{Compat}
-use Rattle.marshal_write.proofs.write.SumLemmas.{take_one}
+use Rattle.marshal_write.proofs.write.WriterSumLemmas.{take_one}
 
 -- ---- the first element of a list
 

@@ -4,8 +4,8 @@ ghost use Rattle.std.specs.Prelude.{◌≡◌, ◌≤◌, ◌<◌, ℕ, List, le
 ghost use Rattle.base_data.specs.declared.model.value.Obj.{Obj};
 ghost use Rattle.base_data.specs.model.Graph.{IsValue};
 ghost use Rattle.marshal_write.specs.write.Marks.{marks_of};
-ghost use Rattle.marshal_write.specs.write.Walking.{AreMarked};
-ghost use Rattle.marshal_write.specs.graft.Order.{IsOrder};
+ghost use Rattle.marshal_write.specs.write.WriteWalk.{AreMarked};
+ghost use Rattle.marshal_write.specs.graft.ObjectOrder.{IsOrder};
 
 use crate::write::{Numbers, number_objects};
 use base_data::model::Memory;

@@ -8,9 +8,9 @@ ghost use Rattle.marshal_spec.specs.format.Isomorphism.{IsTreeOf};
 ghost use Rattle.marshal_spec.specs.format.Token.{leaf};
 ghost use Rattle.marshal_spec.specs.format.Tree.{Tree, tokens};
 ghost use Rattle.marshal_heap.specs.heap.Heap.{object_at};
-ghost use Rattle.marshal_write.specs.write.Step.{token_in, IsHeld};
+ghost use Rattle.marshal_write.specs.write.WriteStep.{token_in, IsHeld};
 ghost use Rattle.marshal_write.specs.write.Reports.{Reports};
-ghost use Rattle.marshal_write.specs.write.Walking.{IsWalk};
+ghost use Rattle.marshal_write.specs.write.WriteWalk.{IsWalk};
 
 use crate::write::write_walk::{WriteStep, WriteWalk};
 use base_data::model::code::Custom;

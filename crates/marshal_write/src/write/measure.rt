@@ -8,10 +8,11 @@ ghost use Rattle.marshal_spec.specs.format.Canonical.{canonical_head};
 ghost use Rattle.marshal_codec.specs.headers.Counting.{IsCountable};
 ghost use Rattle.base_data.specs.declared.model.value.Val.TheVariants as vals;
 ghost use Rattle.marshal_heap.specs.heap.Heap.{IsHeap, object_at, word_of};
-ghost use Rattle.marshal_write.specs.write.Step.{token_in, IsHeld};
-ghost use Rattle.marshal_write.specs.write.Sums.{token_totals, object_totals, plus, head_of_totals};
-ghost use Rattle.marshal_write.specs.write.Sums.{measure_of_custom, FitTotals};
-ghost use Rattle.marshal_write.specs.write.Walking.{IsWalk};
+ghost use Rattle.marshal_write.specs.write.WriteStep.{token_in, IsHeld};
+ghost use Rattle.marshal_write.specs.write.TokenSums.{token_totals, object_totals, plus};
+ghost use Rattle.marshal_write.specs.write.TokenSums.{head_of_totals};
+ghost use Rattle.marshal_write.specs.write.TokenSums.{measure_of_custom, FitTotals};
+ghost use Rattle.marshal_write.specs.write.WriteWalk.{IsWalk};
 
 use crate::write::write_walk::{WriteStep, WriteWalk, kind_at};
 use base_data::model::Memory;

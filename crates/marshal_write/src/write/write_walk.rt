@@ -12,10 +12,10 @@ ghost use Rattle.marshal_heap.specs.heap.Heap.{IsHeap, IsFieldWord, IsOfKind, ob
 ghost use Rattle.marshal_heap.specs.heap.Heap.{kind_of};
 ghost use Rattle.marshal_heap.specs.heap.Heap.{position, word_of};
 ghost use Rattle.marshal_write.specs.write.Marks.{marks_of};
-ghost use Rattle.marshal_write.specs.write.Step.{IsNext, IsHeld, token_in, object_token};
-ghost use Rattle.marshal_write.specs.write.Walking.{IsFrame, IsOuter, fields_left, left_in};
-ghost use Rattle.marshal_write.specs.write.Walking.{left_of, pending};
-ghost use Rattle.marshal_write.specs.write.Walking.{Takes, IsMet, IsWalk};
+ghost use Rattle.marshal_write.specs.write.WriteStep.{IsNext, IsHeld, token_in, object_token};
+ghost use Rattle.marshal_write.specs.write.WriteWalk.{IsFrame, IsOuter, fields_left, left_in};
+ghost use Rattle.marshal_write.specs.write.WriteWalk.{left_of, pending};
+ghost use Rattle.marshal_write.specs.write.WriteWalk.{Takes, IsMet, IsWalk};
 
 use crate::write::marks::Marks;
 use base_data::model::Memory;

@@ -4,14 +4,14 @@ ghost use Rattle.std.specs.Prelude.{◌≡◌, length, IfErr};
 ghost use Rattle.base_data.specs.model.Graph.{IsValue};
 ghost use Rattle.marshal_spec.specs.format.Isomorphism.{IsTreeOf};
 ghost use Rattle.marshal_spec.specs.format.Tree.{Tree};
-ghost use Rattle.base_io.specs.State.{change};
-ghost use Rattle.marshal_write.specs.write.Written.{Writes32, IsEarly};
+ghost use Rattle.base_io.specs.StreamState.{change};
+ghost use Rattle.marshal_write.specs.write.WrittenValue.{Writes32, IsEarly};
 ghost use Rattle.marshal_write.specs.declared.write.writer32.Write32Error.TheVariants.{Fault};
 ghost use Rattle.marshal_write.specs.declared.write.writer32.Write32Error.TheVariants.{Memory as OutOfMemory};
 
 use crate::write::compat::{Compat, first_large, head_compat};
 use crate::write::measure::measure;
-use crate::write::text::new_buffer;
+use crate::write::write_buffer::new_buffer;
 use crate::write::write_walk::WriteWalk;
 use crate::write::writer::write_value;
 use base_data::model::Memory;

@@ -7,18 +7,18 @@ use Rattle.cli_spec.specs.RefusalText.{truncated_text}
 use Rattle.cli_spec.specs.declared.exit.Exit.{Exit}
 use Rattle.cli_spec.specs.declared.exit.Exit.TheVariants.{Value as value, Finished as finished, Memory as out_of_memory}
 use Rattle.base_io.specs.Sink.{Writes}
-use Rattle.base_io.specs.State.{ByteState, Change, change}
-use Rattle.cli_errors.specs.declared.exit.Error.{Error}
-use Rattle.cli_errors.specs.declared.exit.Error.TheVariants as aborts
+use Rattle.base_io.specs.StreamState.{ByteState, Change, change}
+use Rattle.cli_errors.specs.declared.exit_line.Error.{Error}
+use Rattle.cli_errors.specs.declared.exit_line.Error.TheVariants as aborts
 use Rattle.cli_errors.specs.Exits.{IsOrMemory}
 use Rattle.run_spec.specs.runs.Account.{HaveNoExit}
 use Rattle.run_spec.specs.runs.Commands.{Item, Commands, Split, AllPrint, OutputsFirst}
-use Rattle.run_spec.proofs.runs.WriteLemmas.{writes_nothing}
-use Rattle.run_spec.proofs.runs.ValueLemmas.{texts_of-one}
+use Rattle.run_spec.proofs.runs.RunWriteLemmas.{writes_nothing}
+use Rattle.run_spec.proofs.runs.RunValueLemmas.{texts_of-one}
 use Rattle.opt_skip_only.specs.only_spec.OnlyCommand.{missing, IsKnown, ExitsBy, only_command}
-use Rattle.opt_skip_only.specs.only_spec.Known.{output_of_one}
-use Rattle.opt_skip_only.proofs.only_spec.KnownLemmas.{is_known, on_up_to, output_before, output_at, print_count, first_of_one}
-use Rattle.run_loop.proofs.work.FirstLemmas.{first_stays}
+use Rattle.opt_skip_only.specs.only_spec.OnlyOutput.{output_of_one}
+use Rattle.opt_skip_only.proofs.only_spec.OnlyKnownLemmas.{is_known, on_up_to, output_before, output_at, print_count, first_of_one}
+use Rattle.run_loop.proofs.work.WorkFirstLemmas.{first_stays}
 use Rattle.run_loop.specs.work.Works.{Has, ItemsStay, AbortsIn, FinishesIn, Aborts, Feeds, WritesLast, EndsAt}
 use Rattle.opt_skip_only.specs.only.Picked.{HasPicked, nowhere, EndsBefore}
 

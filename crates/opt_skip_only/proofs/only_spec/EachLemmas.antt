@@ -5,7 +5,7 @@ use Rattle.run_spec.specs.runs.Account.{Account}
 use Rattle.run_spec.specs.runs.Call.{Call}
 use Rattle.run_spec.specs.runs.Commands.{Commands}
 use Rattle.run_spec.specs.runs.RunSpec.{RunSpec}
-use Rattle.run_spec.proofs.command_sum.AgreeLemmas.{Agrees}
+use Rattle.run_spec.proofs.command_sum.CommandSumAgreeLemmas.{Agrees}
 use Rattle.run_spec.proofs.command_sum.BesideLemmas.{account_beside, run_spec_beside}
 use Rattle.opt_skip_only.specs.only_spec.OnlyCommand.{only_command, OnlyNothing}
 

@@ -9,7 +9,7 @@ use Rattle.run_spec.specs.runs.Commands.{Item, Commands}
 use Rattle.run_spec.specs.runs.Lawful.{IsOnce, IsInner, AreLawfulAt, AreLawful, AreInTurns}
 use Rattle.run_spec.specs.command_sum.CommandSum.{IsIdleAt, AreDisjoint}
 use Rattle.run_spec.proofs.command_sum.BesideLemmas.{lawful_beside, turns_beside, idle_beside, disjoint_beside}
-use Rattle.opt_skip_only.proofs.only_spec.KnownLemmas.{known_past}
+use Rattle.opt_skip_only.proofs.only_spec.OnlyKnownLemmas.{known_past}
 use Rattle.opt_skip_only.specs.only_spec.OnlyCommand.{missing, FirstBy, OutputsBy, ExitsBy, EndsBy, only_command}
 
 -- The empty list of items does not end with an item.

@@ -5,25 +5,25 @@ use Rattle.std.specs.Prelude.{IsErrAnd, Some, if◌then◌else◌}
 use Rattle.cli_spec.specs.Outcome.{Request, Output, outputs, exits, texts_of, all_ok}
 use Rattle.cli_spec.specs.declared.exit.Exit.TheVariants.{Short as short_input, Finished as finished}
 use Rattle.base_io.specs.Sink.{Writes, WritesPart}
-use Rattle.base_io.specs.State.{ByteState, Change, change}
-use Rattle.cli_errors.specs.declared.exit.Error.{Error}
-use Rattle.cli_errors.specs.declared.exit.Error.TheVariants as aborts
+use Rattle.base_io.specs.StreamState.{ByteState, Change, change}
+use Rattle.cli_errors.specs.declared.exit_line.Error.{Error}
+use Rattle.cli_errors.specs.declared.exit_line.Error.TheVariants as aborts
 use Rattle.run_spec.specs.runs.Account.{HaveNoExit}
 use Rattle.run_spec.specs.runs.Commands.{Item, text as text_item, Commands, OutputsFirst}
 use Rattle.run_spec.proofs.runs.LengthLemmas.{prefix_byte}
-use Rattle.run_spec.proofs.runs.WriteLemmas.{writes_nothing}
-use Rattle.opt_skip_only.specs.skip_spec.Skipping.{Passed, passed_output, bytes_output, skipping}
+use Rattle.run_spec.proofs.runs.RunWriteLemmas.{writes_nothing}
+use Rattle.opt_skip_only.specs.skip_spec.Skipping.{SkippedBytes, passed_output, bytes_output, skipping}
 use Rattle.opt_skip_only.proofs.skip_spec.PassedLemmas.{drop_first, byte_items, bytes_ok, bytes_output_more, byte_count, join_split, join_print, within_split, within_print, within_more, goes_on_after, goes_on_within}
 use Rattle.opt_skip_only.proofs.skip_spec.SkippingLemmas.{byte_stays}
-use Rattle.opt_skip_only.proofs.skip_spec.TableLemmas.{all_ok_append}
-use Rattle.run_loop.specs.declared.work.passed.PassedBytes.{PassedBytes}
-use Rattle.run_loop.specs.work.Gathered.{GathersTo, GathersSome, Passes}
-use Rattle.run_loop.proofs.work.GatherLemmas.{some_of_one, gathers_each}
+use Rattle.opt_skip_only.proofs.skip_spec.SkipTableLemmas.{all_ok_append}
+use Rattle.run_loop.specs.declared.work.passed_bytes.PassedBytes.{PassedBytes}
+use Rattle.run_loop.specs.work.GatheredOutput.{GathersTo, GathersSome, Passes}
+use Rattle.run_loop.proofs.work.WorkGatherLemmas.{some_of_one, gathers_each}
 use Rattle.run_loop.specs.work.Works.{Has, ItemsStay, AbortsIn, FinishesIn, Aborts, Feeds, WritesLast, EndsAt}
 use Rattle.opt_skip_only.specs.skip.SkipCommand.{HasPassed}
 
-module _ {A : Type 0} (passed_by : Request → Passed) (c : Commands A) (p : Passed) (a : A) where
-  abbrev after : Commands (Passed × A)
+module _ {A : Type 0} (passed_by : Request → SkippedBytes) (c : Commands A) (p : SkippedBytes) (a : A) where
+  abbrev after : Commands (SkippedBytes × A)
   after = skipping passed_by c
 
   pub stay : ItemsStay c a → ItemsStay after (p, a)
@@ -394,7 +394,7 @@ module _ {A : Type 0} (passed_by : Request → Passed) (c : Commands A) (p : Pas
         ))
 
 -- Before the first byte, no byte is skipped and no byte is consumed.
-pub begins : (p : Passed) (has : Has) → has [] [] → HasPassed p has p.bytes [] []
+pub begins : (p : SkippedBytes) (has : Has) → has [] [] → HasPassed p has p.bytes [] []
 begins p has there = record {
   passed = [];
   rest = [];

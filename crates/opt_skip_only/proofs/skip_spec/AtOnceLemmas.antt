@@ -5,15 +5,15 @@ use Rattle.run_spec.specs.runs.Account.{Account}
 use Rattle.run_spec.specs.runs.Call.{Call}
 use Rattle.run_spec.specs.runs.Commands.{Item, Commands}
 use Rattle.run_spec.specs.runs.RunSpec.{RunSpec}
-use Rattle.run_spec.proofs.command_sum.AgreeLemmas.{Agrees}
+use Rattle.run_spec.proofs.command_sum.CommandSumAgreeLemmas.{Agrees}
 use Rattle.run_spec.proofs.command_sum.BesideLemmas.{account_beside, run_spec_beside}
-use Rattle.opt_skip_only.specs.skip_spec.Skipping.{Passed, IsFirst, Outputs, Ends, skipping, PassNothing}
+use Rattle.opt_skip_only.specs.skip_spec.Skipping.{SkippedBytes, IsFirst, Outputs, Ends, skipping, PassNothing}
 
-module _ {A : Type 0} (passed_by : Request → Passed) (c : Commands A) where
-  abbrev after : Commands (Passed × A)
+module _ {A : Type 0} (passed_by : Request → SkippedBytes) (c : Commands A) where
+  abbrev after : Commands (SkippedBytes × A)
   after = skipping passed_by c
 
-  module _ (over : Passed) (a : A) (none : over.bytes ≡ 0) where
+  module _ (over : SkippedBytes) (a : A) (none : over.bytes ≡ 0) where
     abbrev n : ℕ
     n = over.bytes
 

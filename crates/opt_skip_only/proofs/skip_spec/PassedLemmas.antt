@@ -7,7 +7,7 @@ use Rattle.std.specs.Prelude.{◌&&◌}
 use Rattle.cli_spec.specs.Outcome.{Request, Output, all_ok}
 use Rattle.cli_spec.specs.declared.exit.Exit.{Exit}
 use Rattle.run_spec.specs.runs.Commands.{Item, value as value_item, text as text_item, Commands, Split, AllPrint, GoesOn}
-use Rattle.opt_skip_only.specs.skip_spec.Skipping.{Passed, passed_output, bytes_output, skipping}
+use Rattle.opt_skip_only.specs.skip_spec.Skipping.{SkippedBytes, passed_output, bytes_output, skipping}
 
 drop_none : (n : ℕ) (xs : List Item) → length xs ≤ n → drop n xs ≡ []
 drop_none zero [] few = refl
@@ -43,14 +43,14 @@ pub byte_count : (bytes : List ℕ) → length (byte_items bytes) ≡ length byt
 byte_count [] = refl
 byte_count (b ∷ bytes) = let next = byte_count bytes in omega (arith, next)
 
-module _ {A : Type 0} (passed_by : Request → Passed) (c : Commands A) (over : Passed) (a : A) where
+module _ {A : Type 0} (passed_by : Request → SkippedBytes) (c : Commands A) (over : SkippedBytes) (a : A) where
   abbrev n : ℕ
   n = over.bytes
 
   abbrev copied : Bool
   copied = over.copied
 
-  abbrev after : Commands (Passed × A)
+  abbrev after : Commands (SkippedBytes × A)
   after = skipping passed_by c
 
   one_more : (before : List Item) (item : Item) → n ≤ length before → n ≤ length (before ++ item ∷ [])

@@ -8,7 +8,7 @@ use Rattle.run_spec.specs.runs.Commands.{Item, text as text_item, Commands}
 use Rattle.run_spec.specs.runs.Lawful.{IsOnce, IsInner, AreLawfulAt, AreLawful, AreInTurns}
 use Rattle.run_spec.specs.command_sum.CommandSum.{IsIdleAt, AreDisjoint}
 use Rattle.run_spec.proofs.command_sum.BesideLemmas.{lawful_beside, turns_beside, idle_beside, disjoint_beside}
-use Rattle.opt_skip_only.specs.skip_spec.Skipping.{Passed, IsByte, IsFirst, Outputs, Exits, Ends, skipping}
+use Rattle.opt_skip_only.specs.skip_spec.Skipping.{SkippedBytes, IsByte, IsFirst, Outputs, Exits, Ends, skipping}
 
 byte_once : (bytes : List ℕ) (item other : Item) (more rest : List ℕ) → IsByte bytes item more → IsByte bytes other rest
     → (item ≡ other) × (more ≡ rest)
@@ -22,11 +22,11 @@ pub byte_stays : (bytes : List ℕ) (item : Item) (more later : List ℕ) → Is
     → IsByte (bytes ++ later) item (more ++ later)
 byte_stays bytes item more later p = record { byte = p.byte; bytes_are = ap (λ b. b ++ later) p.bytes_are; is = p.is }
 
-module _ {A : Type 0} (passed_by : Request → Passed) (c : Commands A) where
-  abbrev after : Commands (Passed × A)
+module _ {A : Type 0} (passed_by : Request → SkippedBytes) (c : Commands A) where
+  abbrev after : Commands (SkippedBytes × A)
   after = skipping passed_by c
 
-  module _ (over : Passed) (a : A) (law : AreLawfulAt c a) where
+  module _ (over : SkippedBytes) (a : A) (law : AreLawfulAt c a) where
     abbrev n : ℕ
     n = over.bytes
 

@@ -3,13 +3,13 @@ use Rattle.std.specs.Prelude.{ℕ, ◌≤◌, ◌≡◌, ◌⊎◌, Bool, List, 
 use Rattle.std.specs.Prelude.{Err}
 use Rattle.cli_spec.specs.Outcome.{Output, Reply, exits}
 use Rattle.cli_spec.specs.declared.exit.Exit.TheVariants.{Memory as out_of_memory}
-use Rattle.base_io.specs.State.{ByteState}
+use Rattle.base_io.specs.StreamState.{ByteState}
 use Rattle.opt_skip_only.specs.only_spec.OnlyCommand.{missing}
-use Rattle.opt_skip_only.specs.only_spec.Known.{output_of_one}
+use Rattle.opt_skip_only.specs.only_spec.OnlyOutput.{output_of_one}
 use Rattle.run_spec.specs.runs.Account.{HaveNoExit}
 use Rattle.run_spec.specs.runs.Commands.{Commands}
-use Rattle.cli_errors.specs.declared.exit.Error.{Error}
-use Rattle.cli_errors.specs.declared.exit.Error.TheVariants as aborts
+use Rattle.cli_errors.specs.declared.exit_line.Error.{Error}
+use Rattle.cli_errors.specs.declared.exit_line.Error.TheVariants as aborts
 use Rattle.run_loop.specs.work.Works.{Has}
 
 abbrev pub output_by : Option ℕ → List Output → List Output

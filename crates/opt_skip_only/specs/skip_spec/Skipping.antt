@@ -12,7 +12,7 @@ use Rattle.run_spec.specs.runs.RunSpec.{RunSpec}
 use Rattle.run_spec.specs.command_sum.Beside.{Finds}
 
 -- The number of bytes to skip, and whether the skipped bytes are written unchanged.
-pub record Passed : Type 0 where
+pub record SkippedBytes : Type 0 where
   pub bytes : ℕ
   pub copied : Bool
 
@@ -36,39 +36,39 @@ bytes_output copied (b ∷ bytes) =
 
 module _ {A : Type 0} (c : Commands A) where
   -- The next item is a skipped byte, or an item of the command after all bytes to skip.
-  abbrev pub IsFirst : Passed × A → List Item → List ℕ → Item → List ℕ → Type 0
+  abbrev pub IsFirst : SkippedBytes × A → List Item → List ℕ → Item → List ℕ → Type 0
   IsFirst act items bytes item more =
       ((length items < act.0.bytes) × IsByte bytes item more)
       ⊎ ((act.0.bytes ≤ length items)
       × c.IsFirst act.1 (drop act.0.bytes items) bytes item more)
 
-  abbrev pub Outputs : Passed × A → List Item → Item → Output → Type 0
+  abbrev pub Outputs : SkippedBytes × A → List Item → Item → Output → Type 0
   Outputs act items item output =
       ((length items < act.0.bytes) × (output ≡ passed_output act.0.copied item))
       ⊎ ((act.0.bytes ≤ length items)
       × c.Outputs act.1 (drop act.0.bytes items) item output)
 
   -- The command ends the run after all bytes to skip, because no skipped byte ends the run.
-  abbrev pub Exits : Passed × A → List Item → List ℕ → Exit → Type 0
+  abbrev pub Exits : SkippedBytes × A → List Item → List ℕ → Exit → Type 0
   Exits act items bytes exit =
       (act.0.bytes ≤ length items)
       × c.Exits act.1 (drop act.0.bytes items) bytes exit
 
   -- If the input ends within the bytes to skip, the final reply reports the end.
-  abbrev pub Ends : Passed × A → List Item → List ℕ → Reply → Type 0
+  abbrev pub Ends : SkippedBytes × A → List Item → List ℕ → Reply → Type 0
   Ends act items bytes last =
       ((length items < act.0.bytes) × (last ≡ exits (short_input (length items))))
       ⊎ ((act.0.bytes ≤ length items)
       × c.Ends act.1 (drop act.0.bytes items) bytes last)
 
 -- No request of the arguments skips a byte.
-abbrev pub PassNothing : (Request → Passed) → List (List ℕ) → Type 0
+abbrev pub PassNothing : (Request → SkippedBytes) → List (List ℕ) → Type 0
 PassNothing passed_by arguments =
     (request : Request) → Asks arguments request → (passed_by request).bytes ≡ 0
 
-module _ {A : Type 0} (passed_by : Request → Passed) (c : Commands A) where
+module _ {A : Type 0} (passed_by : Request → SkippedBytes) (c : Commands A) where
   -- The commands after the skipped bytes.
-  abbrev pub skipping : Commands (Passed × A)
+  abbrev pub skipping : Commands (SkippedBytes × A)
   skipping = record {
     Wants = c.Wants;
     Finds = Finds passed_by c;

@@ -2,7 +2,7 @@
 
 ghost use Rattle.std.specs.Prelude.{◌≡◌, ◌<◌, ◌+◌, ◌^◌, List, [], ℕ, Option, Some, length};
 ghost use Rattle.cli_spec.specs.Outcome.{Output};
-ghost use Rattle.base_io.specs.State.{change};
+ghost use Rattle.base_io.specs.StreamState.{change};
 ghost use Rattle.opt_skip_only.specs.only.Picked.{nowhere, HasPicked, EndsBefore};
 ghost use Rattle.opt_skip_only.specs.only_spec.OnlyCommand.{only_command};
 ghost use Rattle.run_loop.specs.work.Works.{Feeds};
@@ -10,8 +10,8 @@ ghost use Rattle.run_loop.specs.work.Works.{Feeds};
 use crate::only::Counts;
 use crate::only_spec::laws::PicksOne;
 use base_io::{Failed, Sink};
-use cli_errors::exit::Error;
-use cli_errors::made::split_value;
+use cli_errors::exit_constructors::split_value;
+use cli_errors::exit_line::Error;
 use cli_spec::exit::Exit;
 use run_loop::work::Work;
 use std::alloc::Global;

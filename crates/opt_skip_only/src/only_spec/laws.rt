@@ -4,10 +4,10 @@ ghost use Rattle.std.specs.Prelude.{ℕ, Option};
 ghost use Rattle.run_spec.specs.exit_causes.Causes.{AreExact};
 ghost use Rattle.run_spec.specs.command_sum.CommandSum.{AreDisjoint, IsIdleAt};
 ghost use Rattle.cli_spec.specs.Outcome.{Request};
-ghost use Rattle.opt_skip_only.specs.only_spec.Asked.{picked_by};
+ghost use Rattle.opt_skip_only.specs.only_spec.OnlyRequests.{picked_by};
 ghost use Rattle.opt_skip_only.specs.only_spec.OnlyCommand.{only_command, HaveAccountsOfEach};
 ghost use Rattle.opt_skip_only.specs.only_spec.OnlyCommand.{SpecifyOfEach};
-ghost use Rattle.opt_skip_only.specs.only_spec.Tables.{only_command_tables};
+ghost use Rattle.opt_skip_only.specs.only_spec.OnlyTables.{only_command_tables};
 ghost use Rattle.run_spec.specs.runs.Lawful.{AreInTurns, AreLawful};
 
 use run_spec::exit_causes::laws::Meant;

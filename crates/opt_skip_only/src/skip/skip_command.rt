@@ -6,7 +6,7 @@ ghost use Rattle.opt_skip_only.specs.skip.SkipCommand.{passed_of, HasPassed};
 
 use crate::skip_spec::laws::PassesOver;
 use base_io::{Sink, write_all};
-use cli_errors::exit::Error;
+use cli_errors::exit_line::Error;
 use cli_spec::exit::Exit;
 use run_loop::work::{PassedBytes, Work};
 use std::alloc::Global;
@@ -62,9 +62,9 @@ fn first_bytes(left: u64, buffered: usize) -> usize
 }
 
 impl<P: PassesOver, W: Work> Work for SkipCommand<P, W> {
-    ghost use Rattle.opt_skip_only.specs.skip_spec.Skipping.{Passed, skipping};
+    ghost use Rattle.opt_skip_only.specs.skip_spec.Skipping.{SkippedBytes, skipping};
 
-    ghost Act = { Passed × W.Act };
+    ghost Act = { SkippedBytes × W.Act };
 
     ghost commands = { skipping P.passed_by W.commands };
 

@@ -3,10 +3,11 @@
 ghost use Rattle.run_spec.specs.exit_causes.Causes.{AreExact, Causes};
 ghost use Rattle.run_spec.specs.command_sum.CommandSum.{AreDisjoint, IsIdleAt};
 ghost use Rattle.cli_spec.specs.Outcome.{Request};
-ghost use Rattle.opt_skip_only.specs.skip_spec.Asked.{passed_by};
-ghost use Rattle.opt_skip_only.specs.skip_spec.Skipping.{Passed, skipping, HaveAccountsAtOnce};
+ghost use Rattle.opt_skip_only.specs.skip_spec.SkipRequests.{passed_by};
+ghost use Rattle.opt_skip_only.specs.skip_spec.Skipping.{SkippedBytes, skipping};
+ghost use Rattle.opt_skip_only.specs.skip_spec.Skipping.{HaveAccountsAtOnce};
 ghost use Rattle.opt_skip_only.specs.skip_spec.Skipping.{SpecifyAtOnce};
-ghost use Rattle.opt_skip_only.specs.skip_spec.Tables.{skipping_tables};
+ghost use Rattle.opt_skip_only.specs.skip_spec.SkipTables.{skipping_tables};
 ghost use Rattle.run_spec.specs.runs.CommandLaws.{Follow};
 ghost use Rattle.run_spec.specs.runs.Lawful.{AreInTurns, AreLawful};
 
@@ -16,7 +17,7 @@ use std::marker::PhantomData;
 
 /// The parameter of the option `--skip`: what a request skips of the input.
 pub trait PassesOver {
-    ghost passed_by: { Request → Passed };
+    ghost passed_by: { Request → SkippedBytes };
 }
 
 /// The value of the option `--skip` in the arguments.
@@ -30,13 +31,13 @@ impl PassesOver for ByArguments {
 pub struct Skipping<P, C>(PhantomData<P>, PhantomData<C>);
 
 impl<P: PassesOver, C: Act> Act for Skipping<P, C> {
-    ghost acts = { Passed × C.acts };
+    ghost acts = { SkippedBytes × C.acts };
 
     ghost commands = { skipping P.passed_by C.commands };
 }
 
 impl<P: PassesOver, C: Meant> Meant for Skipping<P, C> {
-    ghost acts = { Passed × C.acts };
+    ghost acts = { SkippedBytes × C.acts };
 
     ghost commands = { skipping P.passed_by C.commands };
 

@@ -4,18 +4,18 @@ use Rattle.std.specs.Prelude.{◌&&◌, ◌==◌, false}
 use Rattle.cli_spec.specs.Outcome.{Output, nothing_output, outputs, all_ok}
 use Rattle.cli_spec.specs.declared.exit.Exit.TheVariants.{Memory as out_of_memory}
 use Rattle.base_io.specs.Sink.{Writes, WritesPart}
-use Rattle.base_io.specs.State.{ByteState, change}
-use Rattle.cli_errors.specs.declared.exit.Error.TheVariants as aborts
+use Rattle.base_io.specs.StreamState.{ByteState, change}
+use Rattle.cli_errors.specs.declared.exit_line.Error.TheVariants as aborts
 use Rattle.run_spec.specs.runs.Account.{HaveNoExit}
 use Rattle.run_spec.specs.runs.Commands.{text, OutputsFirst}
 use Rattle.run_spec.proofs.runs.LengthLemmas.{prefix_byte}
-use Rattle.run_spec.proofs.runs.LineLemmas.{broken}
-use Rattle.run_spec.proofs.runs.WriteLemmas.{writes_nothing}
-use Rattle.run_spec.proofs.runs.ValueLemmas.{texts_of-one, all_ok-snoc}
+use Rattle.run_spec.proofs.runs.RunLineLemmas.{broken}
+use Rattle.run_spec.proofs.runs.RunWriteLemmas.{writes_nothing}
+use Rattle.run_spec.proofs.runs.RunValueLemmas.{texts_of-one, all_ok-snoc}
 use Rattle.run_loop.specs.work.Works.{ItemsStay, AbortsIn, Feeds, WritesLast}
-use Rattle.run_loop.proofs.work.FirstLemmas.{first_stays, first_next}
-use Rattle.run_loop.specs.examples.Small.{IsUnbroken, fine, last_line, lines}
-use Rattle.run_loop.specs.examples.Taken.{HasLines}
+use Rattle.run_loop.proofs.work.WorkFirstLemmas.{first_stays, first_next}
+use Rattle.run_loop.specs.examples.SmallCommands.{IsUnbroken, fine, last_line, lines}
+use Rattle.run_loop.specs.examples.TakenItems.{HasLines}
 
 unbroken_next : (line : List ℕ) (b : ℕ) → IsUnbroken line → b ≢ 10 → IsUnbroken (line ++ b ∷ [])
 unbroken_next [] b all other = (other, tt)

@@ -1,12 +1,12 @@
 -- Lemmas about the command that reads no input.
 use Rattle.std.proofs.Common.{◌≡◌, ℕ, List, [], Result, Ok, Err, Bool, true, refl, sym, subst}
 use Rattle.base_io.specs.Sink.{Writes, WritesPart}
-use Rattle.base_io.specs.State.{ByteState, Change, change}
-use Rattle.cli_errors.specs.declared.exit.Error.{Error}
-use Rattle.cli_errors.specs.declared.exit.Error.TheVariants as aborts
+use Rattle.base_io.specs.StreamState.{ByteState, Change, change}
+use Rattle.cli_errors.specs.declared.exit_line.Error.{Error}
+use Rattle.cli_errors.specs.declared.exit_line.Error.TheVariants as aborts
 use Rattle.run_spec.specs.runs.Account.{HaveNoExit}
 use Rattle.run_loop.specs.work.Works.{Has, WritesLast, EndsAt}
-use Rattle.run_loop.specs.examples.Small.{reporting, fine}
+use Rattle.run_loop.specs.examples.SmallCommands.{reporting, fine}
 
 -- No byte is consumed, and no output is written.
 abbrev IsNothing : Has

@@ -1,17 +1,17 @@
 -- If a run returns a status of the environment, then the environment caused the status.
 use Rattle.std.proofs.Common.{◌≡◌, ℕ, ◌+◌, ◌^◌, ◌≤◌, Bool, List, [], length, Result, Ok, Err, IfSome, inl, inr, refl, sym, ap, ◌∙◌, subst, length-append, arith}
 use Rattle.std.proofs.lemmas.Option.{IfSome_then}
-use Rattle.cli_spec.specs.Outcome.{Taken, InputEnd, at_end, at_fault, at_length, unasked, Output, exits, replies}
+use Rattle.cli_spec.specs.Outcome.{Taken, ReadingEnd, at_end, at_fault, at_length, unasked, Output, exits, replies}
 use Rattle.cli_spec.specs.declared.exit.Exit.{Exit}
-use Rattle.base_io.specs.Faults.{RoseOrLast}
-use Rattle.base_io.specs.State.{ByteState, Change}
-use Rattle.cli_errors.specs.declared.exit.Error.{Error}
-use Rattle.cli_errors.specs.declared.exit.Error.TheVariants as aborts
+use Rattle.base_io.specs.IoFaults.{RoseOrLast}
+use Rattle.base_io.specs.StreamState.{ByteState, Change}
+use Rattle.cli_errors.specs.declared.exit_line.Error.{Error}
+use Rattle.cli_errors.specs.declared.exit_line.Error.TheVariants as aborts
 use Rattle.run_spec.specs.runs.Commands.{Item, Commands, Closes, IsLast, Answers}
 use Rattle.run_spec.specs.runs.Given.{Gathers}
 use Rattle.run_spec.specs.runs.Lawful.{IsInner, AreLawfulAt}
 use Rattle.run_spec.specs.runs.Environment.{WritesPartAfter}
-use Rattle.run_spec.proofs.runs.WriteLemmas.{rose_after}
+use Rattle.run_spec.proofs.runs.RunWriteLemmas.{rose_after}
 use Rattle.run_loop.specs.work.Runs.{EndsRun}
 use Rattle.run_loop.specs.work.Reported.{HasReason, AbortsByEnvironment, ReportsEnvironment}
 
@@ -35,7 +35,7 @@ long_input input taken gathers is =
 module _ {A : Type 0} (c : Commands A) (a : A) (lawful : AreLawfulAt c a)
     (input : Change ByteState) (taken : Taken) (gathers : Gathers input taken) where
   closes_reason :
-      (items : List Item) (rest : List ℕ) (until : InputEnd) (exit : Exit) → taken.until ≡ until
+      (items : List Item) (rest : List ℕ) (until : ReadingEnd) (exit : Exit) → taken.until ≡ until
       → Closes c a items rest until (exits exit) → HasReason input exit
   closes_reason items rest at_end exit is ends = inl (lawful.ends_inside items rest exit ends)
   closes_reason items rest at_fault exit is same = inr (inr (inl (cc same, failed))) where

@@ -4,14 +4,14 @@ use Rattle.cli_spec.specs.declared.status.Status.{Status}
 use Rattle.cli_spec.specs.Outcome.{IsUsage, Request, nothing, unfetched, exits as exits_reply, stopped, ending_of}
 use Rattle.cli_spec.specs.declared.exit.Exit.{Exit}
 use Rattle.cli_spec.specs.declared.exit.Exit.TheVariants.{Usage as usage, Memory as out_of_memory}
-use Rattle.base_io.specs.State.{ByteState, FilesState, Change, change}
+use Rattle.base_io.specs.StreamState.{ByteState, FilesState, Change, change}
 use Rattle.cli_errors.specs.Exits.{Reports}
 use Rattle.run_spec.specs.runs.Account.{FetchesFor, MayBe, Account}
 use Rattle.run_spec.specs.runs.Call.{Call, call}
 use Rattle.run_spec.specs.runs.Commands.{Fetches, Given, Commands, Prepares, RunReplies}
 use Rattle.run_spec.specs.runs.Environment.{WritesLine}
-use Rattle.run_spec.proofs.runs.WriteLemmas.{writes_nothing}
-use Rattle.run_spec.proofs.runs.TakeLemmas.{took_nothing}
+use Rattle.run_spec.proofs.runs.RunWriteLemmas.{writes_nothing}
+use Rattle.run_spec.proofs.runs.RunTakeLemmas.{took_nothing}
 
 -- The commands request files only in the first `n` turns.
 abbrev pub WantsInTurns : {A : Type 0} → ℕ → Commands A → Type 0

@@ -7,11 +7,11 @@ use Rattle.cli_spec.specs.declared.exit.Exit.{Exit}
 use Rattle.cli_spec.specs.declared.exit.Exit.TheVariants.{ReadFault as read_fault}
 use Rattle.cli_spec.specs.declared.exit.Exit.TheVariants.{TooLong as too_long}
 use Rattle.cli_spec.specs.declared.exit.Exit.TheVariants.{Memory as out_of_memory}
-use Rattle.base_io.specs.Faults.{RoseOrLast}
+use Rattle.base_io.specs.IoFaults.{RoseOrLast}
 use Rattle.base_io.specs.Sink.{Writes}
-use Rattle.base_io.specs.State.{ByteState, FilesState, Change}
-use Rattle.cli_errors.specs.declared.exit.Error.{Error}
-use Rattle.cli_errors.specs.declared.exit.Error.TheVariants as aborts
+use Rattle.base_io.specs.StreamState.{ByteState, FilesState, Change}
+use Rattle.cli_errors.specs.declared.exit_line.Error.{Error}
+use Rattle.cli_errors.specs.declared.exit_line.Error.TheVariants as aborts
 use Rattle.cli_errors.specs.Exits.{Reports}
 use Rattle.run_spec.specs.runs.Account.{FetchesFor, Account}
 use Rattle.run_spec.specs.runs.Call.{call}

@@ -4,9 +4,9 @@ use Rattle.cli_spec.specs.Outcome.{Taken, nothing, Output, outputs, exits, repli
 use Rattle.cli_spec.specs.Outcome.{all_ok}
 use Rattle.cli_spec.specs.declared.exit.Exit.TheVariants.{Memory as out_of_memory}
 use Rattle.base_io.specs.Sink.{Writes}
-use Rattle.base_io.specs.State.{ByteState, Change}
-use Rattle.cli_errors.specs.declared.exit.Error.{Error}
-use Rattle.cli_errors.specs.declared.exit.Error.TheVariants as aborts
+use Rattle.base_io.specs.StreamState.{ByteState, Change}
+use Rattle.cli_errors.specs.declared.exit_line.Error.{Error}
+use Rattle.cli_errors.specs.declared.exit_line.Error.TheVariants as aborts
 use Rattle.run_spec.specs.runs.Account.{IsPaced}
 use Rattle.run_spec.specs.runs.Commands.{Commands, Answers}
 use Rattle.run_spec.specs.runs.Given.{Gathers}

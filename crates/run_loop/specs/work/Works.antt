@@ -5,9 +5,9 @@ use Rattle.cli_spec.specs.Outcome.{Output, outputs, exits, texts_of, all_ok}
 use Rattle.cli_spec.specs.declared.exit.Exit.TheVariants.{Finished as finished}
 use Rattle.cli_spec.specs.declared.exit.Exit.TheVariants.{Memory as out_of_memory}
 use Rattle.base_io.specs.Sink.{Writes, WritesPart}
-use Rattle.base_io.specs.State.{ByteState, Change, change}
-use Rattle.cli_errors.specs.declared.exit.Error.{Error}
-use Rattle.cli_errors.specs.declared.exit.Error.TheVariants as aborts
+use Rattle.base_io.specs.StreamState.{ByteState, Change, change}
+use Rattle.cli_errors.specs.declared.exit_line.Error.{Error}
+use Rattle.cli_errors.specs.declared.exit_line.Error.TheVariants as aborts
 use Rattle.run_spec.specs.runs.Account.{HaveNoExit}
 use Rattle.run_spec.specs.runs.Commands.{Item, Commands, OutputsFirst}
 

@@ -3,7 +3,7 @@
 ghost use Rattle.std.specs.Prelude.{ℕ, List};
 ghost use Rattle.run_spec.specs.runs.Lawful.{AreLawfulAt};
 ghost use Rattle.run_loop.specs.work.Reported.{ReportsEnvironment};
-ghost use Rattle.run_loop.specs.examples.Small.{reporting, lines, bytes_but};
+ghost use Rattle.run_loop.specs.examples.SmallCommands.{reporting, lines, bytes_but};
 
 use crate::examples::{BytesBut, Lines, Reporting};
 use crate::work::environment_is_known;

@@ -2,7 +2,7 @@
 
 use crate::work::Work;
 use base_io::{Sink, write_all};
-use cli_errors::exit::Error;
+use cli_errors::exit_line::Error;
 use std::alloc::Global;
 
 /// Writes a fixed text to the output.
@@ -13,7 +13,7 @@ pub struct Reporting<'a> {
 
 impl Work for Reporting<'_> {
     ghost use Rattle.std.specs.Prelude.{◌≡◌, ℕ, List, []};
-    ghost use Rattle.run_loop.specs.examples.Small.{reporting};
+    ghost use Rattle.run_loop.specs.examples.SmallCommands.{reporting};
 
     ghost Act = { List ℕ };
 

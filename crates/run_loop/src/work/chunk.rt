@@ -3,14 +3,14 @@
 ghost use Rattle.std.specs.Prelude.{◌≡◌, ◌<◌, ◌≤◌, ◌^◌, ℕ, List, length};
 ghost use Rattle.base_data.specs.model.Bytes.{AreBytes};
 ghost use Rattle.cli_spec.specs.Outcome.{Output};
-ghost use Rattle.base_io.specs.State.{change};
+ghost use Rattle.base_io.specs.StreamState.{change};
 ghost use Rattle.run_spec.specs.runs.Given.{chunk_limit};
 ghost use Rattle.run_loop.specs.work.Works.{FeedsAll};
 
 use crate::work::{Work, feed_some};
 use base_data::model::bytes::skip;
 use base_io::Sink;
-use cli_errors::exit::Error;
+use cli_errors::exit_line::Error;
 use std::alloc::Global;
 
 /// Consumes a whole chunk, and writes the output for the items that end in the chunk. If the run

@@ -2,15 +2,15 @@
 
 ghost use Rattle.std.specs.Prelude.{◌≡◌, ◌<◌, ◌+◌, ◌^◌, ◌↔◌, ℕ, List, length, IsTrue};
 ghost use Rattle.cli_spec.specs.Outcome.{Output};
-ghost use Rattle.base_io.specs.State.{change};
+ghost use Rattle.base_io.specs.StreamState.{change};
 ghost use Rattle.run_spec.specs.runs.Account.{HaveNoExit};
 ghost use Rattle.run_spec.specs.runs.Commands.{Commands};
-ghost use Rattle.run_loop.specs.work.Gathered.{Passes};
+ghost use Rattle.run_loop.specs.work.GatheredOutput.{Passes};
 ghost use Rattle.run_loop.specs.work.Works.{ItemsStay, Feeds, EndsAt};
 
 use crate::work::PassedBytes;
 use base_io::Sink;
-use cli_errors::exit::Error;
+use cli_errors::exit_line::Error;
 use std::alloc::Global;
 
 /// A command that consumes its input in chunks.

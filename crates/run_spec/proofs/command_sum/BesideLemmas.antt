@@ -1,7 +1,7 @@
 -- If commands are lawful, then the commands with an additional part are lawful. If the arguments
 -- determine no part, then the specifications of a run agree.
 use Rattle.std.proofs.Common.{◌≡◌, ◌⊎◌, ℕ, List, Result, Ok, Err, inl, inr, refl, sym, ap, ◌∙◌, subst}
-use Rattle.base_io.specs.State.{FilesState, Change}
+use Rattle.base_io.specs.StreamState.{FilesState, Change}
 use Rattle.cli_spec.specs.Outcome.{opened, whole, Request, Asks, ReadsFile}
 use Rattle.cli_spec.specs.declared.exit.Exit.{Exit}
 use Rattle.run_spec.specs.runs.Account.{FetchesFor, Account}
@@ -11,7 +11,7 @@ use Rattle.run_spec.specs.runs.Lawful.{IsOnce, IsInner, IsWhole, FailsAtFile, Is
 use Rattle.run_spec.specs.runs.RunSpec.{RunSpec}
 use Rattle.run_spec.specs.command_sum.Beside.{Finds}
 use Rattle.run_spec.specs.command_sum.CommandSum.{IsIdleAt, AreDisjoint}
-use Rattle.run_spec.proofs.command_sum.AgreeLemmas.{Agrees, Agree, agree_back, wanted_fetches, account_too, run_spec_too}
+use Rattle.run_spec.proofs.command_sum.CommandSumAgreeLemmas.{Agrees, Agree, agree_back, wanted_fetches, account_too, run_spec_too}
 
 module _ {A B : Type 0} (part_by : Request → B) (c : Commands A) (d : Commands (B × A)) where
   -- The commands that request the files of `c` and have the outputs of `d`.

@@ -4,25 +4,25 @@ use Rattle.std.specs.Prelude.{◌↔◌, IfSome}
 use Rattle.base_data.specs.model.Bytes.{AreBytes}
 use Rattle.cli_spec.specs.declared.status.Status.{Status}
 use Rattle.cli_spec.specs.declared.status.Status.TheVariants as statuses
-use Rattle.cli_spec.specs.Outcome.{InputEnd, at_end, at_fault, at_length, unasked, Taken, exits, opened, whole, status_of, ending_of, Replies, stopped}
+use Rattle.cli_spec.specs.Outcome.{ReadingEnd, at_end, at_fault, at_length, unasked, Taken, exits, opened, whole, status_of, ending_of, Replies, stopped}
 use Rattle.cli_spec.specs.declared.exit.Exit.{Exit}
 use Rattle.cli_spec.specs.declared.exit.Exit.TheVariants.{Usage as usage, BadPath as bad_path, ReadFault as read_fault, TooLong as too_long}
 use Rattle.base_io.specs.Files.{File, contents_of}
 use Rattle.run_spec.specs.runs.Account.{MayBe}
 use Rattle.run_spec.specs.runs.Call.{Call}
-use Rattle.run_spec.specs.runs.Causes.{AreAsKnown, AreMeant, IfArguments, IfFiles, IsDecided, IsExact}
+use Rattle.run_spec.specs.runs.RunCauses.{AreAsKnown, AreMeant, IfArguments, IfFiles, IsDecided, IsExact}
 use Rattle.run_spec.specs.runs.Commands.{Fetches, Given, Commands, GoesOn, Closes, Prepares, HaveExit, IsLast, OutputsAll, Answers, RunReplies, Outcome}
 use Rattle.run_spec.specs.runs.Given.{IsFoundOf, ReportsBytes}
 use Rattle.run_spec.specs.runs.Lawful.{AreLawful}
 use Rattle.run_spec.specs.runs.Environment.{IsHonest, IsWriteOrMemoryError, IsEnvironment}
 use Rattle.run_spec.specs.runs.RunSpec.{known_files, HoldEnd, HasOutcome, Headline, ExitsBefore, Means, IfExit, IfEnd, IfUsage}
-use Rattle.run_spec.proofs.runs.FileLemmas.{all_of}
-use Rattle.run_spec.proofs.runs.OnceLemmas.{prepares_once}
+use Rattle.run_spec.proofs.runs.RunFileLemmas.{all_of}
+use Rattle.run_spec.proofs.runs.RunOnceLemmas.{prepares_once}
 use Rattle.run_spec.proofs.runs.OutcomeLemmas.{is_memory}
-use Rattle.run_spec.proofs.runs.SettledLemmas.{Goes, IsStatus, settled, exit_status}
-use Rattle.run_spec.proofs.runs.KnownLemmas.{lawful_at, either, exit_comes, end_comes}
+use Rattle.run_spec.proofs.runs.RunSettledLemmas.{Goes, IsStatus, settled, exit_status}
+use Rattle.run_spec.proofs.runs.RunKnownLemmas.{lawful_at, either, exit_comes, end_comes}
 use Rattle.run_spec.specs.exit_causes.Causes.{Tables, AreExact, Show, IsBarred, IsCaused, OnlyCaused, IfBadArguments, IfBarred, IsToBeDone, IfShown, IsDue, HasWhatIsDue}
-use Rattle.run_spec.proofs.exit_causes.TableLemmas.{bar_of, bar_found, exit_with, exit_held, end_with, end_held, shows_given, gives_shown}
+use Rattle.run_spec.proofs.exit_causes.ExitCauseTableLemmas.{bar_of, bar_found, exit_with, exit_held, end_with, end_held, shows_given, gives_shown}
 
 -- If a file was read completely, then the text read is the whole text that the file map has for the
 -- file's name.
@@ -91,7 +91,7 @@ module _ {A : Type 0} (c : Commands A) (tables : Tables A) (exact : AreExact c t
         (ending_of all).status ≢ statuses.ReadFault → (ending_of all).status ≢ statuses.TooLong
         → Show c tables a taken.bytes (ending_of all).status
     shown not_read not_long = by s.last where
-      closed : (u : InputEnd) → GoesOn c a s.items s.rest
+      closed : (u : ReadingEnd) → GoesOn c a s.items s.rest
           → Closes c a s.items s.rest u all.last
           → Show c tables a taken.bytes (ending_of all).status
       closed at_end on closes = end_shown on closes

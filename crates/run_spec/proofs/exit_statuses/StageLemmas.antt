@@ -3,7 +3,7 @@
 use Rattle.std.proofs.Common.{◌≡◌, ◌⊎◌, ℕ, List, Option, Some, Ok, Err, inl, inr, refl, sym, ap, ◌∙◌, subst}
 use Rattle.cli_spec.specs.declared.status.Status.{Status}
 use Rattle.cli_spec.specs.declared.status.Status.TheVariants.{Usage, Types, Script, ReadFault, OpenFault, TooLong}
-use Rattle.cli_spec.specs.Outcome.{InputEnd, at_end, at_fault, at_length, unasked, Found, opened, whole, missing, failed, unfetched, Request, AskedType, asked_with, asked_type, report, get, edit, dump, compare, own, status_of, fault_of, ReadsFile, ReadsTypeOf, ReadsScriptOf, Query, the_part, ReportsAt, FindsWork, Language}
+use Rattle.cli_spec.specs.Outcome.{ReadingEnd, at_end, at_fault, at_length, unasked, Found, opened, whole, missing, failed, unfetched, Request, AskedType, asked_with, asked_type, report, get, edit, dump, compare, own, status_of, fault_of, ReadsFile, ReadsTypeOf, ReadsScriptOf, Query, the_part, ReportsAt, FindsWork, Language}
 use Rattle.cli_spec.specs.declared.exit.Exit.{Exit}
 use Rattle.cli_spec.specs.declared.exit.Exit.TheVariants.{BadPath as bad_path, Declarations as declarations, RequestedType as requested_type, Script as script_line, ReadFault as read_fault, TooLong as too_long}
 use Rattle.run_spec.specs.runs.Commands.{Fetches}
@@ -16,7 +16,7 @@ use Rattle.run_spec.specs.exit_statuses.Stages.{HasNoPath, IsRefusedType, Refuse
 abbrev pub IsOfFile : Status → Type 0
 IsOfFile status = (status ≡ ReadFault) ⊎ ((status ≡ OpenFault) ⊎ (status ≡ TooLong))
 
-end_status : (until : InputEnd) (exit : Exit) → fault_of until ≡ Some exit → IsOfFile (status_of exit)
+end_status : (until : ReadingEnd) (exit : Exit) → fault_of until ≡ Some exit → IsOfFile (status_of exit)
 end_status at_end exit e = absurd (cc e)
 end_status at_fault exit e = let is : read_fault ≡ exit = cc e in inl (sym (ap status_of is))
 end_status at_length exit e = let is : too_long ≡ exit = cc e in inr (inr (sym (ap status_of is)))

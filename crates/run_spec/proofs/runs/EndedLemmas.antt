@@ -12,7 +12,7 @@ use Rattle.run_spec.specs.runs.Call.{Call, HasWritten}
 use Rattle.run_spec.specs.runs.Commands.{Given, Commands, RunReplies}
 use Rattle.run_spec.specs.runs.Given.{TakesFrom, IsFoundOf}
 use Rattle.run_spec.specs.runs.Environment.{WritesLine}
-use Rattle.run_spec.proofs.runs.SettledLemmas.{exit_status}
+use Rattle.run_spec.proofs.runs.RunSettledLemmas.{exit_status}
 
 -- The status is 0 or 1, and nothing ended the run early.
 abbrev pub IsEnd : Status → Type 0

@@ -7,7 +7,7 @@ use Rattle.run_spec.specs.runs.Commands.{text, Fetches}
 use Rattle.run_spec.specs.runs.Example.{example_name, has_bytes, ok_output, IsLine, IsFine, last_output, example, OutputsUnread, OutputsRest}
 use Rattle.run_spec.specs.runs.Lawful.{IsOnce, IsInner, IsWhole, FailsAtFile, AreLawfulAt, AreLawful, AreInTurns}
 use Rattle.run_spec.proofs.runs.LengthLemmas.{some_line}
-use Rattle.run_spec.proofs.runs.OnceLemmas.{Then_once}
+use Rattle.run_spec.proofs.runs.RunOnceLemmas.{Then_once}
 
 -- A file has at most one reading.
 pub reads_once : (name : List ℕ) (found : Found) → IsOnce (ReadsFile name found)

@@ -4,20 +4,20 @@
 use Rattle.std.proofs.Common.{◌≡◌, ◌⊎◌, ℕ, List, [], ◌++◌, Some, Result, Ok, Err, inl, inr, sym, ap, ◌∙◌, subst, append-nil}
 use Rattle.cli_spec.specs.declared.status.Status.{Status}
 use Rattle.cli_spec.specs.declared.status.Status.TheVariants as statuses
-use Rattle.cli_spec.specs.Outcome.{InputEnd, unasked, Taken, nothing, opened, Request, Asks, status_of, ending_of, fault_of, ReadsFile, Found, exits, Reply, replies, stopped, texts_of}
+use Rattle.cli_spec.specs.Outcome.{ReadingEnd, unasked, Taken, nothing, opened, Request, Asks, status_of, ending_of, fault_of, ReadsFile, Found, exits, Reply, replies, stopped, texts_of}
 use Rattle.cli_spec.specs.declared.exit.Exit.{Exit}
 use Rattle.cli_spec.specs.declared.exit.Exit.TheVariants.{Memory as out_of_memory}
 use Rattle.base_io.specs.Sink.{Writes}
 use Rattle.run_spec.specs.runs.Account.{IsFinishedBehind, IsOutputFirst, HaveNoExit, Completes, Breaks, Account}
 use Rattle.run_spec.specs.runs.Call.{Call}
-use Rattle.run_spec.specs.runs.Causes.{FailsByInput, FailsByFile, IfInputFails}
+use Rattle.run_spec.specs.runs.RunCauses.{FailsByInput, FailsByFile, IfInputFails}
 use Rattle.run_spec.specs.runs.Commands.{Commands, Prepares, RunReplies}
 use Rattle.run_spec.specs.runs.Given.{Gathers}
 use Rattle.run_spec.specs.runs.Lawful.{FailsAtFile, AreLawful}
 use Rattle.run_spec.specs.runs.Environment.{WritesLine, ReportsFault}
-use Rattle.run_spec.proofs.runs.FaultLemmas.{file_read, file_long}
-use Rattle.run_spec.proofs.runs.OnceLemmas.{prepares_once}
-use Rattle.run_spec.proofs.runs.SettledLemmas.{IsOuter, reply_inside, exit_status, Cause, by_reply, by_file, by_input, cause_of}
+use Rattle.run_spec.proofs.runs.RunFaultLemmas.{file_read, file_long}
+use Rattle.run_spec.proofs.runs.RunOnceLemmas.{prepares_once}
+use Rattle.run_spec.proofs.runs.RunSettledLemmas.{IsOuter, reply_inside, exit_status, Cause, by_reply, by_file, by_input, cause_of}
 
 -- The status is 6 or 10, which the environment causes if bytes are incomplete.
 abbrev IsSplit : Status → Type 0
@@ -85,7 +85,7 @@ module _ {A : Type 0} (c : Commands A) (arguments : List (List ℕ)) (call : Cal
     status_is : call.status ≡ status_of exit
     status_is = ended.status ∙ exit_status (replies a.output ended.last) exit is
 
-    fault_known : (until : InputEnd) → fault_of until ≡ Some exit → ReportsFault until call
+    fault_known : (until : ReadingEnd) → fault_of until ≡ Some exit → ReportsFault until call
     fault_known until f = record {
       exit = exit;
       is_fault = f;

@@ -7,7 +7,7 @@ use Rattle.cli_spec.specs.declared.exit.Exit.{Exit}
 use Rattle.run_spec.specs.runs.CommandLaws.{HaveOneExit, ExitsStay, ExitsAreLast}
 use Rattle.run_spec.specs.runs.Commands.{Item, Commands, Split, OutputsFirst, GoesOn, HaveExit}
 use Rattle.run_spec.specs.runs.Lawful.{IsOnce, AreLawfulAt, AreLawful}
-use Rattle.run_spec.proofs.runs.OnceLemmas.{IsStuck, split_bytes, stuck_once}
+use Rattle.run_spec.proofs.runs.RunOnceLemmas.{IsStuck, split_bytes, stuck_once}
 
 module _ {A : Type 0} (c : Commands A) (a : A) (lawful : AreLawfulAt c a) where
   split_stays :

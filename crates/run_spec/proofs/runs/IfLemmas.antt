@@ -4,15 +4,15 @@ use Rattle.cli_spec.specs.declared.status.Status.TheVariants as statuses
 use Rattle.cli_spec.specs.Outcome.{status_of, ending_of, Replies}
 use Rattle.run_spec.specs.runs.Account.{MayBe}
 use Rattle.run_spec.specs.runs.Call.{Call}
-use Rattle.run_spec.specs.runs.Causes.{IfAlone, IfInputTooLong}
+use Rattle.run_spec.specs.runs.RunCauses.{IfAlone, IfInputTooLong}
 use Rattle.run_spec.specs.runs.Commands.{Given, Commands, Answers}
 use Rattle.run_spec.specs.runs.Given.{ReportsBytes}
 use Rattle.run_spec.specs.runs.Lawful.{AreLawfulAt, AreLawful}
 use Rattle.run_spec.specs.runs.Environment.{IsWriteOrMemoryError, IsEnvironment}
 use Rattle.run_spec.specs.runs.RunSpec.{IfExit, IfEnd}
-use Rattle.run_spec.proofs.runs.OnceLemmas.{alone_once}
-use Rattle.run_spec.proofs.runs.SettledLemmas.{IsStatus, settled}
-use Rattle.run_spec.proofs.runs.KnownLemmas.{IsFaultOrLong, short_faults, long_faults, either, comes_of, exit_comes, end_comes, long_comes}
+use Rattle.run_spec.proofs.runs.RunOnceLemmas.{alone_once}
+use Rattle.run_spec.proofs.runs.RunSettledLemmas.{IsStatus, settled}
+use Rattle.run_spec.proofs.runs.RunKnownLemmas.{IsFaultOrLong, short_faults, long_faults, either, comes_of, exit_comes, end_comes, long_comes}
 
 module _ {A : Type 0} (c : Commands A) (arguments : List (List ℕ)) (call : Call)
     (lawful : AreLawful c) (status : IsStatus c arguments call) where

@@ -5,23 +5,23 @@ use Rattle.std.specs.Prelude.{IsSome, IsSomeAnd}
 use Rattle.std.proofs.lemmas.Bool.{cases_lt}
 use Rattle.cli_spec.specs.declared.status.Status.{Status}
 use Rattle.cli_spec.specs.declared.status.Status.TheVariants as statuses
-use Rattle.cli_spec.specs.Outcome.{InputEnd, at_end, at_fault, at_length, unasked, fault_of, whole, Found, opened, missing, failed, unfetched, found_of, Request, Asks, status_of, ending_of, ReadsFile, Replies, stopped}
+use Rattle.cli_spec.specs.Outcome.{ReadingEnd, at_end, at_fault, at_length, unasked, fault_of, whole, Found, opened, missing, failed, unfetched, found_of, Request, Asks, status_of, ending_of, ReadsFile, Replies, stopped}
 use Rattle.cli_spec.specs.declared.exit.Exit.{Exit}
 use Rattle.cli_spec.specs.declared.exit.Exit.TheVariants.{ReadFault as read_fault, TooLong as too_long}
 use Rattle.cli_args.proofs.RequestLemmas.{one_request}
 use Rattle.base_io.specs.Files.{File, contents_of}
-use Rattle.base_io.specs.State.{change}
+use Rattle.base_io.specs.StreamState.{change}
 use Rattle.run_spec.specs.runs.Account.{IsWanted, FetchesIn, MayBe}
 use Rattle.run_spec.specs.runs.Call.{Call}
-use Rattle.run_spec.specs.runs.Causes.{IsSought, OnlyOpenFault, IfMissing, IfFileTooLong, IfFiles}
+use Rattle.run_spec.specs.runs.RunCauses.{IsSought, OnlyOpenFault, IfMissing, IfFileTooLong, IfFiles}
 use Rattle.run_spec.specs.runs.Commands.{Fetches, Given, Commands, RunReplies}
 use Rattle.run_spec.specs.runs.Given.{IsFoundOf, IsMeasuredFile, has_open_fault}
 use Rattle.run_spec.specs.runs.Lawful.{AreLawful, AreInTurns}
 use Rattle.run_spec.specs.runs.Environment.{IsWriteOrMemoryError, IsEnvironment, CannotOpen}
 use Rattle.run_spec.specs.runs.RunSpec.{known_files}
-use Rattle.run_spec.proofs.runs.FileLemmas.{IsFault, whole_known, fault_environment, found_in, measured_in, missing_known, opening_failed, fault_named}
-use Rattle.run_spec.proofs.runs.SettledLemmas.{Goes, IsOuter, reply_inside, exit_status, open_output, Cause, by_reply, by_file, by_input, cause_of, IsStatus, settled, if_arguments}
-use Rattle.run_spec.proofs.runs.KnownLemmas.{IsFaultOrLong, long_faults}
+use Rattle.run_spec.proofs.runs.RunFileLemmas.{IsFault, whole_known, fault_environment, found_in, measured_in, missing_known, opening_failed, fault_named}
+use Rattle.run_spec.proofs.runs.RunSettledLemmas.{Goes, IsOuter, reply_inside, exit_status, open_output, Cause, by_reply, by_file, by_input, cause_of, IsStatus, settled, if_arguments}
+use Rattle.run_spec.proofs.runs.RunKnownLemmas.{IsFaultOrLong, long_faults}
 
 last_or_before : (n m : ℕ) → n < suc m → (n < m) ⊎ (n ≡ m)
 last_or_before n m less = go (cases_lt n m) where
@@ -411,7 +411,7 @@ module _ {A : Type 0} (c : Commands A) (arguments : List (List ℕ)) (call : Cal
 -- ---- a file that cannot be opened
 
 end_open :
-    (u : InputEnd) (exit : Exit) → fault_of u ≡ Some exit → status_of exit ≡ statuses.OpenFault
+    (u : ReadingEnd) (exit : Exit) → fault_of u ≡ Some exit → status_of exit ≡ statuses.OpenFault
     → ⊥
 end_open at_end exit f e = cc f
 end_open at_fault exit f e =

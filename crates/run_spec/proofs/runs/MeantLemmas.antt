@@ -2,7 +2,7 @@
 use Rattle.std.proofs.Common.{◌≡◌, ◌≢◌, ℕ, List, Option, Some, None, IfSome, Result, Ok, Err, inl, inr, refl, sym, ap, ◌∙◌, subst}
 use Rattle.cli_spec.specs.declared.status.Status.{Status}
 use Rattle.cli_spec.specs.declared.status.Status.TheVariants as statuses
-use Rattle.cli_spec.specs.Outcome.{InputEnd, at_end, at_fault, at_length, unasked, Taken, status_of, ending_of, exits, Replies}
+use Rattle.cli_spec.specs.Outcome.{ReadingEnd, at_end, at_fault, at_length, unasked, Taken, status_of, ending_of, exits, Replies}
 use Rattle.cli_spec.specs.declared.exit.Exit.{Exit}
 use Rattle.cli_spec.specs.declared.exit.Exit.TheVariants.{Usage as usage, ReadFault as read_fault, TooLong as too_long}
 use Rattle.run_spec.specs.runs.Account.{MayBe}
@@ -12,9 +12,9 @@ use Rattle.run_spec.specs.runs.Given.{TakesFrom, Gathers}
 use Rattle.run_spec.specs.runs.Lawful.{AreLawfulAt, AreLawful}
 use Rattle.run_spec.specs.runs.Environment.{IsWriteOrMemoryError}
 use Rattle.run_spec.specs.runs.RunSpec.{HoldEnd, Gives, Means, OnlyMeant}
-use Rattle.run_spec.proofs.runs.FileLemmas.{all_of}
+use Rattle.run_spec.proofs.runs.RunFileLemmas.{all_of}
 use Rattle.run_spec.proofs.runs.HoldLemmas.{hold_stays}
-use Rattle.run_spec.proofs.runs.SettledLemmas.{Goes, IsStatus, exit_status}
+use Rattle.run_spec.proofs.runs.RunSettledLemmas.{Goes, IsStatus, exit_status}
 
 module _ (call : Call) where
   -- `Holds` is true of the whole input if the input is known, or of some input if the input is
@@ -58,7 +58,7 @@ module _ (call : Call) where
                   (hold_stays c a law taken.bytes rest exit here),
             ))
 
-        closed : (u : InputEnd) → taken.until ≡ u → GoesOn c a s.items s.rest
+        closed : (u : ReadingEnd) → taken.until ≡ u → GoesOn c a s.items s.rest
             → Closes c a s.items s.rest u all.last → IsGiven
         closed at_end e on closes =
             let end : HoldEnd c a taken.bytes all.output all.last =

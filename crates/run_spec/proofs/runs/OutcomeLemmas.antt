@@ -5,24 +5,24 @@ use Rattle.std.specs.Prelude.{MatchResult}
 use Rattle.base_data.specs.model.Bytes.{AreBytes}
 use Rattle.cli_spec.specs.declared.status.Status.{Status}
 use Rattle.cli_spec.specs.declared.status.Status.TheVariants as statuses
-use Rattle.cli_spec.specs.Outcome.{InputEnd, at_end, at_fault, at_length, unasked, whole, ending_of, ReadsFile, exits, Replies, replies, stopped}
+use Rattle.cli_spec.specs.Outcome.{ReadingEnd, at_end, at_fault, at_length, unasked, whole, ending_of, ReadsFile, exits, Replies, replies, stopped}
 use Rattle.cli_spec.specs.declared.exit.Exit.{Exit}
 use Rattle.cli_spec.specs.declared.exit.Exit.TheVariants.{Memory as out_of_memory}
 use Rattle.base_io.specs.Files.{File, contents_of}
 use Rattle.run_spec.specs.runs.Account.{IsWanted, MayBe, Completes, Breaks, Account}
 use Rattle.run_spec.specs.runs.Call.{Call}
-use Rattle.run_spec.specs.runs.Causes.{IsDecided, IsExact, IsComplete}
+use Rattle.run_spec.specs.runs.RunCauses.{IsDecided, IsExact, IsComplete}
 use Rattle.run_spec.specs.runs.Commands.{Given, Commands, Prepares, GoesOn, IsLast, Closes, OutputsAll, Answers, RunReplies, Outcome}
 use Rattle.run_spec.specs.runs.Given.{TakesFrom, ReportsBytes, IsMeasured}
 use Rattle.run_spec.specs.runs.Lawful.{IsWhole, AreLawfulAt, AreLawful}
 use Rattle.run_spec.specs.runs.Environment.{WritesLine, IsOkRead}
 use Rattle.run_spec.specs.runs.RunSpec.{known_files, HasOutcome, Headline}
-use Rattle.run_spec.proofs.runs.FileLemmas.{all_of, not_shorter, whole_known, ok_known, found_in, measured_in, opening_failed, reading_failed}
+use Rattle.run_spec.proofs.runs.RunFileLemmas.{all_of, not_shorter, whole_known, ok_known, found_in, measured_in, opening_failed, reading_failed}
 use Rattle.run_spec.proofs.runs.HoldLemmas.{first_stays}
-use Rattle.run_spec.proofs.runs.OnceLemmas.{replies_once}
-use Rattle.run_spec.proofs.runs.WriteLemmas.{rose_after}
-use Rattle.run_spec.proofs.runs.SettledLemmas.{Goes, exit_status}
-use Rattle.run_spec.proofs.runs.KnownLemmas.{lawful_at}
+use Rattle.run_spec.proofs.runs.RunOnceLemmas.{replies_once}
+use Rattle.run_spec.proofs.runs.RunWriteLemmas.{rose_after}
+use Rattle.run_spec.proofs.runs.RunSettledLemmas.{Goes, exit_status}
+use Rattle.run_spec.proofs.runs.RunKnownLemmas.{lawful_at}
 
 pub is_memory : (s : Status) → (s ≡ statuses.Memory) ⊎ (s ≢ statuses.Memory)
 is_memory statuses.Memory = inl refl
@@ -95,7 +95,7 @@ module _ {A : Type 0} (c : Commands A) (arguments : List (List ℕ)) (call : Cal
       prefix : input ≡ given.input.bytes ++ rest
       prefix = taken_rest.1.prefix
 
-      closed : (u : InputEnd) → given.input.until ≡ u → GoesOn c a s.items s.rest
+      closed : (u : ReadingEnd) → given.input.until ≡ u → GoesOn c a s.items s.rest
           → Closes c a s.items s.rest u all.last → OutputsAll c a (whole input) all
       closed at_end e on closes =
           subst (λ b. OutputsAll c a (whole b) all)

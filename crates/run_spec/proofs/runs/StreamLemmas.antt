@@ -11,7 +11,7 @@ use Rattle.marshal_spec.specs.format.Prefix.{IsRefused}
 use Rattle.marshal_spec.specs.format.Judgement.{Judgement, value, Judges}
 use Rattle.marshal_spec.specs.format.Judgement as j
 use Rattle.marshal_spec.specs.format.Laws.{HasOneJudgement}
-use Rattle.marshal_spec.specs.format.Stream.{EncodeAll, End, clean, refused, cut, IsTail, Stream}
+use Rattle.marshal_spec.specs.format.Stream.{EncodeAll, StreamEnd, clean, refused, cut, IsTail, Stream}
 use Rattle.marshal_spec.proofs.format.JudgementLaws.{one_judgement_lem}
 use Rattle.run_spec.specs.runs.StreamLaws.{HasOneStream}
 use Rattle.run_spec.proofs.runs.LengthLemmas.{encoded_some}
@@ -51,7 +51,7 @@ module _ (law : HasOneJudgement) (limit : ℕ) where
   nothing_refused n refusal (inr r) = empty n r.prefix r.last r.bytes_are
 
   -- If a value begins the bytes, then the bytes are no tail.
-  pub value_or_tail : (first more tail : List ℕ) (t : Tree) (e : End) → AreBytes tail → EncodedUnder limit first t → tail ≡ first ++ more → IsTail limit tail e → ⊥
+  pub value_or_tail : (first more tail : List ℕ) (t : Tree) (e : StreamEnd) → AreBytes tail → EncodedUnder limit first t → tail ≡ first ++ more → IsTail limit tail e → ⊥
   value_or_tail first more tail t clean are_bytes encoded same h =
       let some : 0 < length first = encoded_some limit first t encoded in
       let size : length (first ++ more) ≡ length first + length more = length-append first more in
@@ -64,7 +64,7 @@ module _ (law : HasOneJudgement) (limit : ℕ) where
       let e = not_both (value (length first) t) j.prefix tail are_bytes at_prefix f in cc e
 
   -- The end of a tail is unique.
-  tail_once : (tail : List ℕ) (e e' : End) → AreBytes tail → IsTail limit tail e → IsTail limit tail e' → e ≡ e'
+  tail_once : (tail : List ℕ) (e e' : StreamEnd) → AreBytes tail → IsTail limit tail e → IsTail limit tail e' → e ≡ e'
   tail_once tail clean clean are_bytes h h' = refl
   tail_once tail clean (refused r) are_bytes h (n, fits, is) = absurd (nothing_refused n r (subst (λ b. IsRefused limit (take n b) r) h is))
   tail_once tail clean (cut n) are_bytes h (some, size, f) = let zero : length tail ≡ 0 = ap length h in absurd (omega arith)
@@ -80,7 +80,7 @@ module _ (law : HasOneJudgement) (limit : ℕ) where
   tail_once tail (cut n) (cut n') are_bytes (some, size, f) (some', size', f') = ap (λ n. cut n) (sym size ∙ size')
 
   -- Bytes are at most one stream of values, with one end.
-  pub streams_once : (bytes : List ℕ) (trees others : List Tree) (end other : End) → AreBytes bytes
+  pub streams_once : (bytes : List ℕ) (trees others : List Tree) (end other : StreamEnd) → AreBytes bytes
       → Stream bytes limit trees end → Stream bytes limit others other → (trees ≡ others) × (end ≡ other)
   streams_once bytes [] [] end other are_bytes (tail, same, is) (tail', same', is') =
       (refl, tail_once tail end other (subst AreBytes same are_bytes) is (subst (λ t. IsTail limit t other) (sym same' ∙ same) is'))
@@ -124,13 +124,13 @@ encode_bytes limit bytes rest (tree ∷ trees) (first, more, same, encoded, all)
 
 module _ (law : HasOneJudgement) (limit : ℕ) where
   -- Bytes are a stream of values.
-  stream_in : (fuel : ℕ) (bytes : List ℕ) → length bytes ≤ fuel → AreBytes bytes → (trees : List Tree) × (end : End) × Stream bytes limit trees end
+  stream_in : (fuel : ℕ) (bytes : List ℕ) → length bytes ≤ fuel → AreBytes bytes → (trees : List Tree) × (end : StreamEnd) × Stream bytes limit trees end
   stream_in fuel [] fits are_bytes = ([], clean, ([], refl, refl))
   stream_in zero (b ∷ bytes) fits are_bytes = absurd (omega arith)
   stream_in (suc fuel) (b ∷ bytes) fits are_bytes =
       let one = law limit (b ∷ bytes) are_bytes in at (λ more. stream_in fuel more) one.0 one.1.holds where
-        at : ((more : List ℕ) → length more ≤ fuel → AreBytes more → (trees : List Tree) × (end : End) × Stream more limit trees end)
-            → (judgement : Judgement) → Judges limit (b ∷ bytes) judgement → (trees : List Tree) × (end : End) × Stream (b ∷ bytes) limit trees end
+        at : ((more : List ℕ) → length more ≤ fuel → AreBytes more → (trees : List Tree) × (end : StreamEnd) × Stream more limit trees end)
+            → (judgement : Judgement) → Judges limit (b ∷ bytes) judgement → (trees : List Tree) × (end : StreamEnd) × Stream (b ∷ bytes) limit trees end
         at next_stream j.prefix f = ([], cut (length (b ∷ bytes)), (b ∷ bytes, refl, (omega arith, refl, f)))
         at next_stream (j.refused n refusal) r = ([], refused refusal, (b ∷ bytes, refl, (n, r.0, r.1)))
         at next_stream (j.value n tree) v =
@@ -143,7 +143,7 @@ module _ (law : HasOneJudgement) (limit : ℕ) where
               (next.2.0, (take n (b ∷ bytes), drop n (b ∷ bytes), sym (take-append-drop n (b ∷ bytes)), v.1, next.2.1), next.2.2),
             )
 
-  pub stream_of : (bytes : List ℕ) → AreBytes bytes → (trees : List Tree) × (end : End) × Stream bytes limit trees end
+  pub stream_of : (bytes : List ℕ) → AreBytes bytes → (trees : List Tree) × (end : StreamEnd) × Stream bytes limit trees end
   stream_of bytes are_bytes = stream_in (length bytes) bytes (omega arith) are_bytes
 
 -- Bytes are exactly one stream.

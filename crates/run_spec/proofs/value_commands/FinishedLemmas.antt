@@ -1,7 +1,7 @@
 -- A command on values is never finished before the input ends.
 use Rattle.std.proofs.Common.{◌≡◌, ◌⊎◌, ℕ, Bool, List, length, inl, inr}
 use Rattle.marshal_spec.specs.format.Tree.{Tree}
-use Rattle.cli_spec.specs.Outcome.{Unedited, untyped, refused_line, too_large, unedited_exit, Language, Work, reports, edits, dumps, compares, Task, ExitsAt}
+use Rattle.cli_spec.specs.Outcome.{Unedited, untyped, refused_line, too_large, unedited_exit, Language, ValueWork, reports, edits, dumps, compares, Task, ExitsAt}
 use Rattle.cli_spec.specs.declared.exit.Exit.TheVariants.{Finished as finished}
 use Rattle.run_spec.specs.runs.Commands.{Item}
 use Rattle.run_spec.specs.value_commands.Tasks.{IsRefused, commands}
@@ -13,7 +13,7 @@ not_unedited ok number (refused_line line refusal) e = cc e
 not_unedited ok number (too_large refusal) e = cc e
 
 module _ {D T E : Type 0} (language : Language D T E) where
-  not_here : (work : Work T E) (limit : ℕ) (trees : List Tree) (bytes : List ℕ) (ok : Bool)
+  not_here : (work : ValueWork T E) (limit : ℕ) (trees : List Tree) (bytes : List ℕ) (ok : Bool)
       → ExitsAt language work limit trees bytes (finished ok) → ⊥
   not_here (reports query type) limit trees bytes ok at = at
   not_here (edits type script compat) limit trees bytes ok at =

@@ -5,9 +5,9 @@ use Rattle.base_data.specs.declared.model.refusal.ReadRefusal.{ReadRefusal}
 use Rattle.marshal_spec.specs.format.Prefix.{IsRefused}
 use Rattle.marshal_spec.specs.format.Stream.{refused, IsTail}
 use Rattle.marshal_spec.specs.format.Tree.{Tree}
-use Rattle.cli_spec.specs.Outcome.{Language, Work, reports, edits, dumps, compares, ExitsAt}
+use Rattle.cli_spec.specs.Outcome.{Language, ValueWork, reports, edits, dumps, compares, ExitsAt}
 use Rattle.cli_spec.specs.declared.exit.Exit.{Exit}
-use Rattle.run_spec.proofs.runs.ValueLemmas.{encode_after}
+use Rattle.run_spec.proofs.runs.RunValueLemmas.{encode_after}
 
 -- If the first bytes are refused, then all bytes are refused.
 pub tail_after :
@@ -25,7 +25,7 @@ prefix_none (x ∷ xs) ys e = absurd (cc e)
 
 -- An exit reason remains if more bytes follow.
 pub exits_more :
-    {D T E : Type 0} (language : Language D T E) (work : Work T E) (limit : ℕ) (trees : List Tree)
+    {D T E : Type 0} (language : Language D T E) (work : ValueWork T E) (limit : ℕ) (trees : List Tree)
     (rest more : List ℕ) (exit : Exit)
     → ExitsAt language work limit trees rest exit
     → ExitsAt language work limit trees (rest ++ more) exit

@@ -13,7 +13,7 @@ use Rattle.cli_spec.specs.declared.exit.Exit.TheVariants.{BadPath as bad_path}
 use Rattle.base_io.specs.Files.{File, contents_of}
 use Rattle.run_spec.specs.runs.Account.{FetchesFor}
 use Rattle.run_spec.specs.runs.Call.{Call}
-use Rattle.run_spec.specs.runs.Causes.{AreShortBefore}
+use Rattle.run_spec.specs.runs.RunCauses.{AreShortBefore}
 use Rattle.run_spec.specs.runs.Commands.{Fetches, Commands, Prepares, HaveExit}
 use Rattle.run_spec.specs.runs.Environment.{IsHonest, IsWriteOrMemoryError, IsEnvironment, AreShort}
 use Rattle.run_spec.specs.runs.RunSpec.{known_files, HoldEnd, Gives, AtInput}

@@ -17,7 +17,7 @@
 use Rattle.cli_spec.specs.Outcome.{Language, Task}
 use Rattle.run_spec.specs.exit_causes.Causes.{Tables}
 use Rattle.run_spec.specs.exit_statuses.Stages.{HasNoPath, Bar}
-use Rattle.run_spec.specs.exit_statuses.Values.{ExitWith, EndWith}
+use Rattle.run_spec.specs.exit_statuses.ValueStatuses.{ExitWith, EndWith}
 
 abbrev pub values_tables : {D T E : Type 0} → Language D T E → Tables (Task T E)
 values_tables language = record {

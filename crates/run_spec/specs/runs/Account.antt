@@ -7,7 +7,7 @@ use Rattle.cli_spec.specs.Outcome.{Output, outputs, exits, Reply, replies, texts
 use Rattle.cli_spec.specs.declared.exit.Exit.TheVariants.{Finished as finished}
 use Rattle.cli_spec.specs.declared.exit.Exit.TheVariants.{Memory as out_of_memory}
 use Rattle.base_io.specs.Sink.{Writes}
-use Rattle.base_io.specs.State.{FilesState, Change, change}
+use Rattle.base_io.specs.StreamState.{FilesState, Change, change}
 use Rattle.run_spec.specs.runs.Call.{Call}
 use Rattle.run_spec.specs.runs.Commands.{Item, Fetches, Given, Commands, Prepares, OutputsFirst}
 use Rattle.run_spec.specs.runs.Commands.{GoesOn}

@@ -2,7 +2,7 @@
 -- and the status.
 use Rattle.std.specs.Prelude.{ℕ, List, ◌++◌, ◌≡◌, Some}
 use Rattle.cli_spec.specs.declared.status.Status.{Status}
-use Rattle.base_io.specs.State.{ByteState, FilesState, Change}
+use Rattle.base_io.specs.StreamState.{ByteState, FilesState, Change}
 
 pub record Call : Type 0 where
   pub input : Change ByteState

@@ -4,7 +4,7 @@
 -- exit reason.
 use Rattle.std.specs.Prelude.{ℕ, ◌≡◌, ◌⊎◌, List, [], ◌∷◌, ◌++◌, Option, None, Result, MatchResult}
 use Rattle.marshal_spec.specs.format.Tree.{Tree}
-use Rattle.cli_spec.specs.Outcome.{InputEnd, at_end, at_fault, at_length, unasked, Taken, whole}
+use Rattle.cli_spec.specs.Outcome.{ReadingEnd, at_end, at_fault, at_length, unasked, Taken, whole}
 use Rattle.cli_spec.specs.Outcome.{Found, found_of, Request, fault_of, Output, Reply, exits}
 use Rattle.cli_spec.specs.Outcome.{Replies, stopped, Then, ReadsArguments}
 use Rattle.cli_spec.specs.declared.exit.Exit.{Exit}
@@ -86,7 +86,7 @@ module _ {A : Type 0} (c : Commands A) where
       pub at : c.Exits a items rest exit
 
     -- The final reply if no more input can be read.
-    abbrev pub Closes : List Item → List ℕ → InputEnd → Reply → Type 0
+    abbrev pub Closes : List Item → List ℕ → ReadingEnd → Reply → Type 0
     Closes items rest at_end last = c.Ends a items rest last
     Closes items rest at_fault last = last ≡ exits read_fault
     Closes items rest at_length last = last ≡ exits too_long
@@ -94,7 +94,7 @@ module _ {A : Type 0} (c : Commands A) where
 
     -- The final reply is an exit reason in an input that did not fail, or follows after all of the
     -- input was requested.
-    abbrev pub IsLast : List Item → List ℕ → InputEnd → Reply → Type 0
+    abbrev pub IsLast : List Item → List ℕ → ReadingEnd → Reply → Type 0
     IsLast items rest until last =
         ((exit : Exit) × c.Exits a items rest exit × (fault_of until ≡ None) × (last ≡ exits exit))
         ⊎ (GoesOn items rest × Closes items rest until last)

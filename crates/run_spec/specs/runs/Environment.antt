@@ -3,12 +3,12 @@ use Rattle.std.specs.Prelude.{ℕ, ◌^◌, ◌<◌, ◌≤◌, ◌≡◌, ◌�
 use Rattle.cli_spec.specs.declared.status.Status.{Status}
 use Rattle.cli_spec.specs.declared.status.Status.TheVariants.{ReadFault, WriteFault, OpenFault}
 use Rattle.cli_spec.specs.declared.status.Status.TheVariants.{Memory}
-use Rattle.cli_spec.specs.Outcome.{InputEnd, fault_of, status_of, exit_line, Ending}
+use Rattle.cli_spec.specs.Outcome.{ReadingEnd, fault_of, status_of, exit_line, Ending}
 use Rattle.cli_spec.specs.declared.exit.Exit.{Exit}
-use Rattle.base_io.specs.Faults.{RoseOrLast, last_count}
+use Rattle.base_io.specs.IoFaults.{RoseOrLast, last_count}
 use Rattle.base_io.specs.Files.{File, contents_of}
 use Rattle.base_io.specs.Sink.{Writes, WritesPart}
-use Rattle.base_io.specs.State.{ByteState, FilesState, Change, change}
+use Rattle.base_io.specs.StreamState.{ByteState, FilesState, Change, change}
 use Rattle.run_spec.specs.runs.Call.{Call}
 
 -- The file map stays the same, and no count of faults decreases.
@@ -104,7 +104,7 @@ CannotOpen files name =
 
 -- The bytes ended at a fault, or were too many. The status reports the reason, and `err` has the
 -- line of the reason.
-pub record ReportsFault (until : InputEnd) (call : Call) : Type 0 where
+pub record ReportsFault (until : ReadingEnd) (call : Call) : Type 0 where
   pub exit : Exit
   pub is_fault : fault_of until ≡ Some exit
   pub status : call.status ≡ status_of exit

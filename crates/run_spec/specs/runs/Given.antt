@@ -2,15 +2,15 @@
 use Rattle.std.specs.Prelude.{ℕ, ◌+◌, ◌^◌, ◌<◌, ◌≤◌, ◌≡◌, Bool, true, false, List, [], ◌++◌, length}
 use Rattle.std.specs.Prelude.{Option, Some, None, IsSome, IsSomeAnd, IfSome}
 use Rattle.base_data.specs.model.Bytes.{AreBytes}
-use Rattle.cli_spec.specs.Outcome.{InputEnd, at_end, at_fault, at_length, unasked, Taken, Found}
+use Rattle.cli_spec.specs.Outcome.{ReadingEnd, at_end, at_fault, at_length, unasked, Taken, Found}
 use Rattle.cli_spec.specs.Outcome.{opened, missing, failed, unfetched}
-use Rattle.base_io.specs.Faults.{HasCause}
+use Rattle.base_io.specs.IoFaults.{HasCause}
 use Rattle.base_io.specs.Files.{contents_of}
-use Rattle.base_io.specs.State.{ByteState, FilesState, Change}
+use Rattle.base_io.specs.StreamState.{ByteState, FilesState, Change}
 
 -- ---- bytes read
 
-abbrev pub is_fault : InputEnd → Bool
+abbrev pub is_fault : ReadingEnd → Bool
 is_fault at_end = false
 is_fault at_fault = true
 is_fault at_length = false
@@ -21,7 +21,7 @@ abbrev pub chunk_limit : ℕ
 chunk_limit = 65536
 
 -- After 2^48 bytes no more bytes are requested, and an operation returns at most one chunk.
-abbrev pub IsMeasured : InputEnd → ℕ → Type 0
+abbrev pub IsMeasured : ReadingEnd → ℕ → Type 0
 IsMeasured at_end n = n < 2 ^ 48
 IsMeasured at_fault n = n < 2 ^ 48
 IsMeasured at_length n = (2 ^ 48 ≤ n) × (n < 2 ^ 48 + chunk_limit)

@@ -1,8 +1,8 @@
 -- The laws of lawful commands, each list of laws as one record.
-use Rattle.run_spec.specs.runs.Causes.{AreAsKnown, AreMeant, IfAlone, IfArguments, IfFiles}
-use Rattle.run_spec.specs.runs.Causes.{OnlyOpenFault, IfMissing, OnlyTooLong, IfFileTooLong}
-use Rattle.run_spec.specs.runs.Causes.{IfInputTooLong, IfInputFails, IfMemory, IfWriteFault}
-use Rattle.run_spec.specs.runs.Causes.{IsDecided, IsExact, IsComplete}
+use Rattle.run_spec.specs.runs.RunCauses.{AreAsKnown, AreMeant, IfAlone, IfArguments, IfFiles}
+use Rattle.run_spec.specs.runs.RunCauses.{OnlyOpenFault, IfMissing, OnlyTooLong, IfFileTooLong}
+use Rattle.run_spec.specs.runs.RunCauses.{IfInputTooLong, IfInputFails, IfMemory, IfWriteFault}
+use Rattle.run_spec.specs.runs.RunCauses.{IsDecided, IsExact, IsComplete}
 use Rattle.run_spec.specs.runs.CommandLaws.{HaveOneOutcome, HaveOneExit, ExitsStay, ExitsAreLast}
 use Rattle.run_spec.specs.runs.CommandLaws.{ArePromised, Follow}
 use Rattle.run_spec.specs.runs.Commands.{Commands}

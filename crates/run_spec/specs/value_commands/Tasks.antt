@@ -1,11 +1,11 @@
 -- The commands on the values of the input, in the general form: each item is a value.
 use Rattle.std.specs.Prelude.{ℕ, ◌<◌, ◌≡◌, ◌⊎◌, List, [], ◌∷◌, length, Some, IfSome, Result, Ok}
 use Rattle.base_data.specs.declared.model.refusal.ReadRefusal.{ReadRefusal}
-use Rattle.marshal_spec.specs.format.Stream.{EncodeAll, End, clean, refused, cut, IsTail}
+use Rattle.marshal_spec.specs.format.Stream.{EncodeAll, StreamEnd, clean, refused, cut, IsTail}
 use Rattle.marshal_spec.specs.format.Tree.{Tree}
 use Rattle.cli_spec.specs.Outcome as outcome
 use Rattle.cli_spec.specs.Outcome.{Request, AskedType, typed_by, path_of, script_of, limit_of}
-use Rattle.cli_spec.specs.Outcome.{Output, Reply, exits, Language, Work, reports, edits, dumps}
+use Rattle.cli_spec.specs.Outcome.{Output, Reply, exits, Language, ValueWork, reports, edits, dumps}
 use Rattle.cli_spec.specs.Outcome.{compares, Task, task, Then, ReadsTypeOf, FindsWork}
 use Rattle.cli_spec.specs.RefusalText.{refusal_text, truncated_text}
 use Rattle.cli_spec.specs.declared.exit.Exit.{Exit}
@@ -13,7 +13,7 @@ use Rattle.cli_spec.specs.declared.exit.Exit.TheVariants.{Value as value}
 use Rattle.run_spec.specs.runs.Commands.{Item, value as value_item, Fetches, Commands}
 
 -- FILE is fetched in the first turn, and SCRIPT in the second.
-abbrev pub by_turns : Fetches → outcome.Fetches
+abbrev pub by_turns : Fetches → outcome.FetchResults
 by_turns files = record { file = files 0; script = files 1 }
 
 -- The values, each as an item of the input.
@@ -63,7 +63,7 @@ module _ {D T E : Type 0} (language : Language D T E) where
     pub encoded : EncodeAll limit bytes (tree ∷ []) more
 
   -- After the values `earlier`, the next value has the output `output`.
-  pub record OutputsOf (work : Work T E) (items : List Item) (item : Item) (output : Output)
+  pub record OutputsOf (work : ValueWork T E) (items : List Item) (item : Item) (output : Output)
       : Type 0 where
     pub earlier : List Tree
     pub are : items ≡ items_of earlier
@@ -72,7 +72,7 @@ module _ {D T E : Type 0} (language : Language D T E) where
     pub outputs : outcome.Outputs language work earlier tree output
 
   -- After `n` values the command accepts one more value.
-  abbrev pub MayCome : Work T E → ℕ → Type 0
+  abbrev pub MayCome : ValueWork T E → ℕ → Type 0
   MayCome (reports query type) n = Unit {0}
   MayCome (edits type script compat) n = Unit {0}
   MayCome dumps n = Unit {0}
@@ -94,7 +94,7 @@ module _ {D T E : Type 0} (language : Language D T E) where
         ⊎ IsRefused a (length trees) bytes exit
 
   -- The final reply if the bytes end after the values, or if one more value is truncated.
-  abbrev pub EndsBy : Work T E → List Tree → End → Reply → Type 0
+  abbrev pub EndsBy : ValueWork T E → List Tree → StreamEnd → Reply → Type 0
   EndsBy work trees clean last = outcome.Finishes language work trees last
   EndsBy work trees (refused refusal) last = ⊥
   EndsBy work trees (cut n) last = last ≡ exits (value (length trees) (truncated_text n))
@@ -103,7 +103,7 @@ module _ {D T E : Type 0} (language : Language D T E) where
       : Type 0 where
     pub trees : List Tree
     pub are : items ≡ items_of trees
-    pub end : End
+    pub end : StreamEnd
     pub tail : IsTail a.limit bytes end
     pub ends : EndsBy a.work trees end last
 

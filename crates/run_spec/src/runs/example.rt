@@ -2,7 +2,7 @@
 
 ghost use Rattle.std.specs.Prelude.{Bool};
 ghost use Rattle.run_spec.specs.runs.CommandLaws.{HaveOneOutcome, ArePromised, Follow};
-ghost use Rattle.run_spec.specs.runs.Causes.{OnlyOpenFault};
+ghost use Rattle.run_spec.specs.runs.RunCauses.{OnlyOpenFault};
 ghost use Rattle.run_spec.specs.runs.Example.{example, OutputsRest, OutputsUnread};
 ghost use Rattle.run_spec.specs.runs.RunSpec.{IfExit};
 

@@ -1,10 +1,11 @@
 //! The theorems about runs, as contracts of lemma functions without a body.
 
-ghost use Rattle.run_spec.specs.runs.Causes.{AreAsKnown, AreMeant, IfAlone, IfArguments};
-ghost use Rattle.run_spec.specs.runs.Causes.{OnlyOpenFault};
-ghost use Rattle.run_spec.specs.runs.Causes.{OnlyTooLong, IfMissing, IfFileTooLong, IfFiles};
-ghost use Rattle.run_spec.specs.runs.Causes.{IfInputTooLong, IfInputFails, IfMemory, IfWriteFault};
-ghost use Rattle.run_spec.specs.runs.Causes.{IsDecided, IsExact, IsComplete};
+ghost use Rattle.run_spec.specs.runs.RunCauses.{AreAsKnown, AreMeant, IfAlone, IfArguments};
+ghost use Rattle.run_spec.specs.runs.RunCauses.{OnlyOpenFault};
+ghost use Rattle.run_spec.specs.runs.RunCauses.{OnlyTooLong, IfMissing, IfFileTooLong, IfFiles};
+ghost use Rattle.run_spec.specs.runs.RunCauses.{IfInputTooLong, IfInputFails, IfMemory};
+ghost use Rattle.run_spec.specs.runs.RunCauses.{IfWriteFault};
+ghost use Rattle.run_spec.specs.runs.RunCauses.{IsDecided, IsExact, IsComplete};
 ghost use Rattle.run_spec.specs.runs.CommandLaws.{ArePromised, Follow};
 ghost use Rattle.run_spec.specs.runs.Commands.{Commands};
 ghost use Rattle.run_spec.specs.runs.Lawful.{AreLawful, AreInTurns};

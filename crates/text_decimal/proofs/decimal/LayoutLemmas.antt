@@ -10,7 +10,7 @@ use Rattle.fast_float.proofs.DigitsLemmas.{digits_value-append}
 use Rattle.fast_float.proofs.Extremes.{tens_eq}
 use Rattle.fast_float.proofs.Rows.{AllDigits-take, AllDigits-drop, AllDigits-append}
 use Rattle.text_decimal.specs.decimal.Layout.{zeros, pointed, behind_point, scientific, placed, size_text}
-use Rattle.text_decimal.specs.decimal.Reading.{is_decimal}
+use Rattle.text_decimal.specs.decimal.DecimalReading.{is_decimal}
 
 -- The number of the numeral `p` is the decimal.
 abbrev pub IsWorth : Parts → ℕ → ℕ → Type 0

@@ -17,8 +17,8 @@ use Rattle.fast_float.proofs.Extremes.{nearest_of_huge, tens_eq, tens_le}
 use Rattle.text_decimal.specs.decimal.Doubles.{units_of, IsSome, IsNearest, Reads}
 use lib.Ieee.Bits.{of_bits-fits}
 use lib.Ieee.Fits.{round-fits}
-use Rattle.text_decimal.proofs.decimal.LevelLemmas.{same_value, value_of_level}
-use Rattle.text_decimal.proofs.decimal.SizeLemmas.{units_lt, value_of_size, no_infinity}
+use Rattle.text_decimal.proofs.decimal.DecimalLevelLemmas.{same_value, value_of_level}
+use Rattle.text_decimal.proofs.decimal.DecimalSizeLemmas.{units_lt, value_of_size, no_infinity}
 
 -- If one finite double is at most another double, then the size of the first double is at most the
 -- size of the second.

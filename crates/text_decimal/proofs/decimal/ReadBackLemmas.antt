@@ -11,11 +11,11 @@ use lib.Ieee.Scale.{round_same}
 use Rattle.fast_float.specs.Text.{Parts, IsWellFormed, nearest, text_of}
 use Rattle.fast_float.proofs.ExactLemmas.{ten_to_pos}
 use Rattle.fast_float.proofs.Extremes.{nearest_of_zero}
-use Rattle.text_decimal.proofs.decimal.ScanLemmas.{scan_before}
+use Rattle.text_decimal.proofs.decimal.DecimalScanLemmas.{scan_before}
 use Rattle.ryu.proofs.Signs as signs
 use Rattle.text_decimal.specs.decimal.Doubles.{size_of, is_negative, infinite, IsNearest}
-use Rattle.text_decimal.specs.decimal.Reading.{IsRead, Stops, is_decimal, decimal_at, bits_of}
-use Rattle.text_print.specs.leaves.Leaves.{float_text}
+use Rattle.text_decimal.specs.decimal.DecimalReading.{IsRead, Stops, is_decimal, decimal_at, bits_of}
+use Rattle.text_print.specs.leaves.LeafTexts.{float_text}
 use Rattle.text_decimal.specs.decimal.Layout.{IsDoubleText, size_text}
 use Rattle.text_decimal.proofs.decimal.NearestLemmas.{few_powers}
 use Rattle.text_decimal.proofs.decimal.LayoutLemmas.{IsWorth, IsNumeralOf, size_text_is, zero_is}

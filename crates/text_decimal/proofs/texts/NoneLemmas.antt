@@ -10,15 +10,15 @@ use Rattle.types_lex.specs.declared.lexeme.Suffix.{Suffix}
 use Rattle.types_lex.specs.declared.lexeme.Suffix.TheVariants as suffixes
 use Rattle.types_lex.specs.declared.lexeme.Symbol.{Symbol}
 use Rattle.types_lex.specs.declared.lexeme.Symbol.TheVariants as symbols
-use Rattle.types_lex.specs.Lexeme.{is_separator, starts_name, is_name_byte, minus_text, suffix_text, symbol_text, Form, Reserved, Lower, Upper, Tag, Variable, Character, Number, Quoted, Double, Mark, form_bytes, form_kind}
-use Rattle.types_lex.specs.LexText.{Part, Separator, Comment, Word, part_bytes, IsPart}
+use Rattle.types_lex.specs.Lexeme.{is_separator, starts_name, is_name_byte, minus_text, suffix_text, symbol_text, LexemeForm, Reserved, Lower, Upper, Tag, Variable, Character, Number, Quoted, Double, Mark, form_bytes, form_kind}
+use Rattle.types_lex.specs.LexText.{TextPart, Separator, Comment, Word, part_bytes, IsPart}
 use Rattle.types_lex.proofs.StepLaws.{part_step, step-part}
-use Rattle.text_roundtrip.proofs.lexed.TakenLemmas.{no_digit}
-use Rattle.text_decimal.specs.decimal.Reading.{Stops, decimal_at}
-use Rattle.text_decimal.proofs.decimal.ScanLemmas.{integer_no_decimal, other_no_decimal}
+use Rattle.text_roundtrip.proofs.lexed.LexedTakenLemmas.{no_digit}
+use Rattle.text_decimal.specs.decimal.DecimalReading.{Stops, decimal_at}
+use Rattle.text_decimal.proofs.decimal.DecimalScanLemmas.{integer_no_decimal, other_no_decimal}
 use Rattle.text_decimal.specs.declared.texts.decimal_prefix.DecimalPrefix.TheVariants as prefixes
-use Rattle.text_decimal.specs.texts.Plain.{may_after, prefix_of, prefix_at}
-use Rattle.text_decimal.proofs.texts.EncodedLemmas.{first_of, IsKept}
+use Rattle.text_decimal.specs.texts.PlainTexts.{may_after, prefix_of, prefix_at}
+use Rattle.text_decimal.proofs.texts.DecimalTextEncodedLemmas.{first_of, IsKept}
 
 -- ---- first bytes
 
@@ -98,7 +98,7 @@ number_none minus d ds suffix s digits stop =
 
 -- ---- all parts
 
-form_none : (form : Form) (s : List ℕ) → IsPart (Word form) s → IsKept (Word form) s → decimal_at (form_bytes form ++ s) ≡ None
+form_none : (form : LexemeForm) (s : List ℕ) → IsPart (Word form) s → IsKept (Word form) s → decimal_at (form_bytes form ++ s) ≡ None
 form_none (Reserved keywords.Type) s is kept = byte_none 116 _ refl (λ e. omega arith)
 form_none (Reserved keywords.And) s is kept = byte_none 97 _ refl (λ e. omega arith)
 form_none (Reserved keywords.Of) s is kept = byte_none 111 _ refl (λ e. omega arith)
@@ -116,7 +116,7 @@ form_none (Quoted cs) s is kept = byte_none 34 _ refl (λ e. omega arith)
 form_none (Double ds) s is kept = byte_none 36 _ refl (λ e. omega arith)
 form_none (Mark m) s is kept = mark_none m s
 
-part_none : (p : Part) (s : List ℕ) → IsPart p s → IsKept p s → decimal_at (part_bytes p ++ s) ≡ None
+part_none : (p : TextPart) (s : List ℕ) → IsPart p s → IsKept p s → decimal_at (part_bytes p ++ s) ≡ None
 part_none (Separator b) s is kept = separator_none b s is
 part_none (Comment inside) s is kept = byte_none 40 _ refl (λ e. omega arith)
 part_none (Word form) s is kept = form_none form s is kept
@@ -124,12 +124,12 @@ part_none (Word form) s is kept = form_none form s is kept
 -- ---- the first token
 
 -- True if a decimal may begin after the part, given whether a decimal may begin before the part.
-abbrev pub next_may : Bool → Part → Bool
+abbrev pub next_may : Bool → TextPart → Bool
 next_may may (Separator b) = may
 next_may may (Comment inside) = may
 next_may may (Word form) = may_after (form_kind form)
 
-kept_step : (may : Bool) (p : Part) → prefix_of may None (Ok (part_step p)) ≡ prefixes.Kept (length (part_bytes p)) (next_may may p)
+kept_step : (may : Bool) (p : TextPart) → prefix_of may None (Ok (part_step p)) ≡ prefixes.Kept (length (part_bytes p)) (next_may may p)
 kept_step may (Separator b) = refl
 kept_step may (Comment inside) = refl
 kept_step may (Word form) = refl
@@ -138,7 +138,7 @@ none_if : (may : Bool) (o : Option (ℕ × ℕ)) → o ≡ None → (if may then
 none_if true o e = e
 none_if false o e = refl
 
-pub prefix_kept : (may : Bool) (p : Part) (s : List ℕ) → IsPart p s → IsKept p s → prefix_at may (part_bytes p ++ s) ≡ prefixes.Kept (length (part_bytes p)) (next_may may p)
+pub prefix_kept : (may : Bool) (p : TextPart) (s : List ℕ) → IsPart p s → IsKept p s → prefix_at may (part_bytes p ++ s) ≡ prefixes.Kept (length (part_bytes p)) (next_may may p)
 prefix_kept may p s is kept =
     (λ i. prefix_of may (none_if may (decimal_at (part_bytes p ++ s)) (part_none p s is kept) i) (step-part p s is i))
     ∙ kept_step may p

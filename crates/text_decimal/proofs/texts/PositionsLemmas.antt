@@ -1,9 +1,9 @@
 -- The decimals of a text, one after another.
 use Rattle.std.proofs.Common.{◌≡◌, ◌∙◌, ℕ, ◌+◌, ◌-◌, ◌<◌, ◌≤◌, List, [], ◌∷◌, ◌++◌, length, drop, slice_range, slice_index_or, sym, ap, subst, arith, append_assoc, le-ltb}
 use Rattle.std.proofs.lemmas.List.{drop_more}
-use Rattle.text_print.specs.leaves.Leaves.{float_text}
+use Rattle.text_print.specs.leaves.LeafTexts.{float_text}
 use Rattle.text_decimal.specs.declared.texts.decimals.Decimal.{Decimal}
-use Rattle.text_decimal.specs.texts.Plain.{plain_with, given_from, AreWithin}
+use Rattle.text_decimal.specs.texts.PlainTexts.{plain_with, given_from, AreWithin}
 
 abbrev pub nothing : Decimal
 nothing = record { first = 0; len = 0; bits = 0 }

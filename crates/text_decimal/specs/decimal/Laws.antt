@@ -1,8 +1,8 @@
 -- The laws of doubles as decimals.
 use Rattle.std.specs.Prelude.{ℕ, ◌^◌, ◌<◌, ◌≡◌, ◌⊎◌, List}
-use Rattle.text_print.specs.leaves.Leaves.{float_text}
+use Rattle.text_print.specs.leaves.LeafTexts.{float_text}
 use Rattle.text_decimal.specs.decimal.Layout.{IsDoubleText}
-use Rattle.text_decimal.specs.decimal.Reading.{IsRead}
+use Rattle.text_decimal.specs.decimal.DecimalReading.{IsRead}
 use Rattle.text_decimal.specs.decimal.Shortest.{double_text}
 
 -- A double has exactly one text, which is `double_text` of the double's bits.

@@ -4,7 +4,7 @@ use Rattle.std.specs.Prelude.{ℕ, ◌+◌, ◌-◌, ◌≤◌, ◌≡◌, ◌�
 use Rattle.std.specs.Prelude.{if◌then◌else◌, List, [], ◌∷◌, ◌++◌, length, take, drop, replicate}
 use Rattle.std.specs.Prelude.{codes}
 use Rattle.std.specs.Fmt.{decimal, sign_text}
-use Rattle.text_print.specs.leaves.Leaves.{float_text}
+use Rattle.text_print.specs.leaves.LeafTexts.{float_text}
 use Rattle.text_decimal.specs.decimal.Doubles.{is_negative, size_of, infinite, IsSome, IsShortest}
 use Rattle.text_decimal.specs.decimal.Doubles.{HasNone}
 

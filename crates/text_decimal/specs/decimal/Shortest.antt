@@ -4,7 +4,7 @@ use Rattle.std.specs.Prelude.{nat_lt, nat_le, if◌then◌else◌, List, ◌++�
 use Rattle.std.specs.Prelude.{to_bits}
 use Rattle.std.specs.Float.Ieee.{binary64, round}
 use Rattle.std.specs.Fmt.{sign_text}
-use Rattle.text_print.specs.leaves.Leaves.{float_text}
+use Rattle.text_print.specs.leaves.LeafTexts.{float_text}
 use Rattle.text_decimal.specs.decimal.Doubles.{is_negative, size_of, infinite, distance}
 use Rattle.text_decimal.specs.decimal.Layout.{size_text}
 

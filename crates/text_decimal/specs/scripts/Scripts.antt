@@ -14,9 +14,9 @@ use Rattle.text_path.specs.declared.edits.Script.{Script}
 use Rattle.text_path.specs.declared.edits.ScriptLine.{ScriptLine}
 use Rattle.text_path.specs.declared.edits.ScriptFault.{ScriptFault}
 use Rattle.text_path.specs.declared.edits.ScriptFault.TheVariants as faults
-use Rattle.text_path.specs.ScriptAnswer.{lines_of, Edits, AreEdits, edits_in}
+use Rattle.text_path.specs.ScriptAnswer.{lines_of, ScriptEdits, AreEdits, edits_in}
 use Rattle.text_decimal.specs.declared.texts.decimals.Decimal.{Decimal}
-use Rattle.text_decimal.specs.texts.Plain.{decimals_in, plain_text, given_position}
+use Rattle.text_decimal.specs.texts.PlainTexts.{decimals_in, plain_text, given_position}
 
 -- The plain text of a script: the plain texts of the lines, joined by line feeds.
 abbrev pub plain_script : List ℕ → List ℕ
@@ -83,14 +83,14 @@ given_fault all (faults.Syntax number position) =
 given_fault all (faults.Later number) = faults.Later number
 given_fault all faults.Memory = faults.Memory
 
-abbrev pub given_edits : List (List Decimal) → Edits → Edits
+abbrev pub given_edits : List (List Decimal) → ScriptEdits → ScriptEdits
 given_edits all (Ok lines) = Ok (map (given_line all) lines)
 given_edits all (Err fault) = Err (given_fault all fault)
 
 -- The edits, or the error, of a script with decimals.
-abbrev pub AreGivenEdits : List ℕ → Edits → Type 0
+abbrev pub AreGivenEdits : List ℕ → ScriptEdits → Type 0
 AreGivenEdits text all =
-    (plain : Edits) × AreEdits 1 (plain_script text) plain
+    (plain : ScriptEdits) × AreEdits 1 (plain_script text) plain
     × (all ≡ given_edits (decimals_of text) plain)
 
 -- The result of parsing a script with decimals.

@@ -7,7 +7,7 @@ use Rattle.types_lex.specs.declared.lexeme.LexemeKind.TheVariants as kinds
 use Rattle.types_lex.specs.declared.lexeme.LexFault.{LexFault}
 use Rattle.types_lex.specs.Lexeme.{is_name_byte}
 use Rattle.types_lex.specs.LexText.{Lexes, Faults}
-use Rattle.text_decimal.specs.texts.Plain.{plain_text}
+use Rattle.text_decimal.specs.texts.PlainTexts.{plain_text}
 use Rattle.text_decimal.specs.texts.Texts.{replaced, decimal_text}
 
 -- Decimals replace doubles lexeme by lexeme, and a text with a lexical error is unchanged.
@@ -41,7 +41,7 @@ DecimalsStayOnOneLine =
 
 -- Suppose no lexeme of a text contains a decimal. Then the text is its own plain text, and is the
 -- plain text of the text with doubles as decimals. Each text of a value satisfies the condition.
-abbrev pub TextsAreReadBack : Type 0
-TextsAreReadBack =
+abbrev pub DecimalTextsAreReadBack : Type 0
+DecimalTextsAreReadBack =
     (text : List ℕ) (lexemes : List Lexeme) → Lexes text lexemes → AreApart text lexemes
     → (plain_text (decimal_text text) ≡ text) × (plain_text text ≡ text)

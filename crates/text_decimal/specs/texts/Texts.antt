@@ -9,10 +9,10 @@ use Rattle.types_lex.specs.declared.lexeme.LexemeKind.TheVariants as kinds
 use Rattle.types_lex.specs.declared.lexeme.LexFault.{LexFault}
 use Rattle.types_lex.specs.declared.found_lexeme.LexStep.{LexStep}
 use Rattle.types_lex.specs.declared.found_lexeme.LexStep.TheVariants.{Gap, Word}
-use Rattle.types_lex.specs.Scan.{step_at}
-use Rattle.text_print.specs.leaves.Leaves.{float_text}
+use Rattle.types_lex.specs.Lexer.{step_at}
+use Rattle.text_print.specs.leaves.LeafTexts.{float_text}
 use Rattle.text_decimal.specs.decimal.Shortest.{double_text}
-use Rattle.text_decimal.specs.texts.Plain.{may_after}
+use Rattle.text_decimal.specs.texts.PlainTexts.{may_after}
 
 -- ---- where a double may be a decimal
 

@@ -3,9 +3,9 @@
 ghost use Rattle.std.specs.Prelude.{MatchOption};
 ghost use Rattle.text_decimal.specs.decimal.Doubles.{HasNone, IsShortest};
 
+use crate::decimal::decimal_search::some_decimal;
 use crate::decimal::nearest::nearest;
 use crate::decimal::raised::raised;
-use crate::decimal::search::some_decimal;
 use crate::decimal::size::Size;
 
 /// Returns the digits and the power of the shortest decimal of a double, or `None` if no decimal of

@@ -1,8 +1,9 @@
 //! The first token of a text in which decimals may denote doubles.
 
 ghost use Rattle.std.specs.Prelude.{◌≡◌, ◌<◌, IfOk, None, length};
-ghost use Rattle.types_lex.specs.Scan.{step_at};
-ghost use Rattle.text_decimal.specs.texts.Plain.{may_after, prefix_of, prefix_at, IsPrefixWithin};
+ghost use Rattle.types_lex.specs.Lexer.{step_at};
+ghost use Rattle.text_decimal.specs.texts.PlainTexts.{may_after, prefix_of, prefix_at};
+ghost use Rattle.text_decimal.specs.texts.PlainTexts.{IsPrefixWithin};
 
 use crate::decimal::read_decimal;
 use base_data::model::Memory;

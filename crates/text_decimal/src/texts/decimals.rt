@@ -1,7 +1,7 @@
 //! The decimals in a text, and the mapping of offsets in the plain text to offsets in the text.
 
 ghost use Rattle.std.specs.Prelude.{◌≡◌, ◌<◌, ◌^◌};
-ghost use Rattle.text_decimal.specs.texts.Plain.{AreWithin, given_position};
+ghost use Rattle.text_decimal.specs.texts.PlainTexts.{AreWithin, given_position};
 
 /// A decimal that denotes a double: the offset of its first byte, its length in bytes, and the bits
 /// of the double.

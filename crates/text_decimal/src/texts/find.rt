@@ -1,11 +1,11 @@
 //! Finds the decimals of a text from left to right.
 
 ghost use Rattle.std.specs.Prelude.{◌≡◌, ◌++◌, ◌^◌, OnOk, IfOk, length};
-ghost use Rattle.text_decimal.specs.texts.Plain.{decimals_in, plain_text, AreWithin};
+ghost use Rattle.text_decimal.specs.texts.PlainTexts.{decimals_in, plain_text, AreWithin};
 
 use crate::texts::decimal_prefix::{DecimalPrefix, read_prefix};
 use crate::texts::decimals::Decimal;
-use crate::texts::plain::write_plain;
+use crate::texts::plain_texts::write_plain;
 use base_data::model::Memory;
 use std::alloc::Global;
 

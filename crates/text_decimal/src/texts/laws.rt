@@ -2,7 +2,7 @@
 //! contract.
 
 ghost use Rattle.text_decimal.specs.texts.Laws.{DecimalsAreByLexemes, DecimalsStayOnOneLine};
-ghost use Rattle.text_decimal.specs.texts.Laws.{TextsAreReadBack};
+ghost use Rattle.text_decimal.specs.texts.Laws.{DecimalTextsAreReadBack};
 
 /// Proves that decimals replace doubles lexeme by lexeme. A text with a lexical error is unchanged.
 pub fn decimals_are_by_lexemes()
@@ -17,5 +17,5 @@ pub fn decimals_stay_on_one_line()
 /// Proves that if a text has no decimals, then printing its doubles as decimals and replacing the
 /// decimals gives the text back.
 pub fn texts_are_read_back()
-    ensures { TextsAreReadBack }
+    ensures { DecimalTextsAreReadBack }
 {}

@@ -2,7 +2,7 @@
 
 ghost use Rattle.std.specs.Prelude.{◌≡◌, ◌≤◌, ◌+◌, ◌++◌, true, length, OnOk};
 ghost use Rattle.std.specs.Str.{bytes_eq};
-ghost use Rattle.text_print.specs.leaves.Leaves.{float_text};
+ghost use Rattle.text_print.specs.leaves.LeafTexts.{float_text};
 ghost use Rattle.types_lex.specs.LexText.{SpansWithin};
 ghost use Rattle.types_lex.specs.declared.lexeme.LexemeKind.TheVariants as kinds;
 ghost use Rattle.text_decimal.specs.texts.Texts.{may_precede, may_follow, write_for, replaced};

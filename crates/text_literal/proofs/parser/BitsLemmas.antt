@@ -9,10 +9,10 @@ use Rattle.types_lex.specs.declared.lexeme.LexemeKind.TheVariants as kinds
 use Rattle.types_lex.specs.declared.lexeme.Symbol.{Symbol}
 use Rattle.types_lex.specs.declared.lexeme.Symbol.TheVariants as symbols
 use Rattle.types_parse.specs.grammar.Grammar.{Kinds, Name, mark}
-use Rattle.text_literal.specs.declared.grammar.literal_node.LiteralNode.{LiteralNode}
-use Rattle.text_literal.specs.grammar.Literal.{Head, Literal, labelled, again, integer, character, string, double, truth, unit, constant, applied, fields, tuple, empty_array, array, Parts, no_parts, more_parts, Rows, no_rows, more_rows, label_kinds, owner_kinds, literal_kinds}
-use Rattle.types_parse.specs.grammar.Lexemes.{kinds_of}
-use Rattle.text_literal.specs.grammar.Nodes.{literal_nodes}
+use Rattle.text_literal.specs.declared.literal_grammar.literal_node.LiteralNode.{LiteralNode}
+use Rattle.text_literal.specs.literal_grammar.Literal.{LiteralHead, Literal, labelled, again, integer, character, string, double, truth, unit, constant, applied, fields, tuple, empty_array, array, Parts, no_parts, more_parts, FieldRows, no_rows, more_rows, label_kinds, owner_kinds, literal_kinds}
+use Rattle.types_parse.specs.grammar.LexemeKinds.{kinds_of}
+use Rattle.text_literal.specs.literal_grammar.LiteralNodes.{literal_nodes}
 use Rattle.text_literal.specs.parser.Starts.{bits_of, and_bits, bits_of_parts, bits_of_rows}
 use Rattle.text_literal.specs.parser.Pending.{listed_parts, listed_rows}
 use Rattle.text_literal.specs.parser.NodesOf.{nodes_of_parts}
@@ -177,7 +177,7 @@ listed_bits : (separator : Symbol) (k : ℕ) (ps : Parts) → bits_of_listed (So
 listed_bits separator k no_parts = refl
 listed_bits separator k (more_parts ps v) = one_more (listed_parts separator k ps) _ v (bits_of_parts ps) (listed_bits separator k ps)
 
-listed_row_bits : (k : ℕ) (rs : Rows) → bits_of_listed (Some []) (listed_rows k rs) ≡ bits_of_rows rs
+listed_row_bits : (k : ℕ) (rs : FieldRows) → bits_of_listed (Some []) (listed_rows k rs) ≡ bits_of_rows rs
 listed_row_bits k no_rows = refl
 listed_row_bits k (more_rows rs x v) = one_more (listed_rows k rs) _ v (bits_of_rows rs) (listed_row_bits k rs)
 
@@ -185,7 +185,7 @@ pub array_bits : (k : ℕ) (l : Option ℕ) (ps : Parts) (v : Literal) → bits_
 array_bits k l ps v = one_more (listed_parts symbols.Semicolon (k + length (label_kinds l) + 1) ps) _ v (bits_of_parts ps) (listed_bits symbols.Semicolon _ ps)
 
 pub record_bits :
-    (k : ℕ) (l : Option ℕ) (o : Option Head) (rs : Rows) (x : Name) (v : Literal)
+    (k : ℕ) (l : Option ℕ) (o : Option LiteralHead) (rs : FieldRows) (x : Name) (v : Literal)
     → bits_of_listed (Some []) (inner_parts k (labelled l (fields o rs x v))) ≡ and_bits (bits_of_rows rs) (bits_of v)
 record_bits k l o rs x v =
     one_more (listed_rows (k + length (label_kinds l) + length (owner_kinds o ++ mark symbols.OpenBrace)) rs) _ v (bits_of_rows rs) (listed_row_bits _ rs)

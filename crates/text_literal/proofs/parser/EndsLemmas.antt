@@ -3,12 +3,12 @@ use Rattle.std.proofs.Common.{arith, refl, sym, ap, ◌∙◌, get_or, cond, ⊎
 use Rattle.std.specs.Prelude.{ℕ, suc, ◌+◌, ◌<◌, ◌≤◌, ◌≡◌, List, [], ◌∷◌, length, slice_set}
 use Rattle.std.proofs.lemmas.Bool.{lt-ltb, cases_eq}
 use Rattle.std.proofs.lemmas.List.{length-append}
-use Rattle.text_literal.specs.declared.grammar.literal_node.LiteralNode.{LiteralNode}
-use Rattle.text_literal.specs.grammar.Literal.{Literal}
-use Rattle.text_literal.specs.grammar.Nodes.{literal_nodes}
+use Rattle.text_literal.specs.declared.literal_grammar.literal_node.LiteralNode.{LiteralNode}
+use Rattle.text_literal.specs.literal_grammar.Literal.{Literal}
+use Rattle.text_literal.specs.literal_grammar.LiteralNodes.{literal_nodes}
 use Rattle.text_literal.specs.parser.NodesOf.{part_nodes, nodes_of_parts}
 use Rattle.text_literal.specs.parser.Standing.{IsAt, own_node, inner_parts}
-use Rattle.text_literal.specs.parser.Ends.{AreEndsFrom, AreEnds, sibling}
+use Rattle.text_literal.specs.parser.SubtreeEnds.{AreEndsFrom, AreEnds, sibling}
 use Rattle.text_literal.proofs.parser.StandingLemmas.{at_prefix, at_back, at_same, at_position, first_in, first_is, own_and_parts, parts_counted}
 
 -- ---- one sibling, or none

@@ -9,14 +9,14 @@ use Rattle.types_lex.specs.declared.lexeme.LexemeKind.TheVariants as kinds
 use Rattle.types_lex.specs.declared.lexeme.Symbol.TheVariants as symbols
 use Rattle.types_lex.specs.Lexemes.{lower_name}
 use Rattle.types_parse.specs.grammar.Grammar.{Kinds, Name, mark}
-use Rattle.text_literal.specs.declared.grammar.literal_node.LiteralNode.{LiteralNode}
-use Rattle.text_literal.specs.grammar.Literal.{Head, Literal, labelled, fields, Rows, no_rows, more_rows, label_kinds, owner_kinds, row_start, literal_kinds, plain_kinds, rows_kinds}
-use Rattle.types_parse.specs.grammar.Lexemes.{kinds_of}
+use Rattle.text_literal.specs.declared.literal_grammar.literal_node.LiteralNode.{LiteralNode}
+use Rattle.text_literal.specs.literal_grammar.Literal.{LiteralHead, Literal, labelled, fields, FieldRows, no_rows, more_rows, label_kinds, owner_kinds, row_start, literal_kinds, plain_kinds, rows_kinds}
+use Rattle.types_parse.specs.grammar.LexemeKinds.{kinds_of}
 use Rattle.text_literal.specs.parser.Starts.{names_of_rows}
 use Rattle.text_literal.specs.parser.Pending.{listed_rows}
 use Rattle.text_literal.specs.parser.NodesOf.{part_nodes, nodes_of_parts}
 use Rattle.text_literal.specs.parser.Standing.{IsAt, Stands, own_node, inner_parts}
-use Rattle.text_literal.specs.parser.Ends.{AreEnds, sibling}
+use Rattle.text_literal.specs.parser.SubtreeEnds.{AreEnds, sibling}
 use Rattle.text_literal.specs.parser.FieldNames.{name_before, name_of_node, names_from}
 use Rattle.text_literal.proofs.parser.StandingLemmas.{at_prefix, at_back, at_same, first_found, own_and_parts, own_first}
 use Rattle.text_literal.proofs.parser.EndsLemmas.{sibling_next, position_in, own_parts}
@@ -84,7 +84,7 @@ and_name all parts k v names x e f =
     ∙ ap (λ before. before ++ name_before all k ∷ []) e
     ∙ ap (λ name. names ++ name ∷ []) f
 
-names_of_listed : (all : Kinds) (k : ℕ) (rs : Rows) → IsAt all k (rows_kinds rs) → names_of all (listed_rows k rs) ≡ names_of_rows rs
+names_of_listed : (all : Kinds) (k : ℕ) (rs : FieldRows) → IsAt all k (rows_kinds rs) → names_of all (listed_rows k rs) ≡ names_of_rows rs
 names_of_listed all k no_rows h = refl
 names_of_listed all k (more_rows rs x v) h =
     let prefix = at_prefix all k (rows_kinds rs ++ row_start x) (literal_kinds v) (at_prefix all k (rows_kinds rs ++ row_start x ++ literal_kinds v) (mark symbols.Semicolon) h) in
@@ -93,7 +93,7 @@ names_of_listed all k (more_rows rs x v) h =
     (name_is all k (rows_kinds rs) x prefix)
 
 names_of_fields :
-    (all : Kinds) (k : ℕ) (l : Option ℕ) (o : Option Head) (rs : Rows) (x : Name) (v : Literal) → IsAt all k (literal_kinds (labelled l (fields o rs x v)))
+    (all : Kinds) (k : ℕ) (l : Option ℕ) (o : Option LiteralHead) (rs : FieldRows) (x : Name) (v : Literal) → IsAt all k (literal_kinds (labelled l (fields o rs x v)))
     → names_of all (inner_parts k (labelled l (fields o rs x v))) ≡ names_of_rows rs ++ x ∷ []
 names_of_fields all k l o rs x v h =
     let own = k + length (label_kinds l) in
@@ -105,7 +105,7 @@ names_of_fields all k l o rs x v h =
     (name_is all own (start ++ rows_kinds rs) x prefix)
 
 pub field_names_are :
-    (nodes : List LiteralNode) (ends : List ℕ) (lexemes : List Lexeme) (at k : ℕ) (l : Option ℕ) (o : Option Head) (rs : Rows) (x : Name) (v : Literal) (d : LiteralNode)
+    (nodes : List LiteralNode) (ends : List ℕ) (lexemes : List Lexeme) (at k : ℕ) (l : Option ℕ) (o : Option LiteralHead) (rs : FieldRows) (x : Name) (v : Literal) (d : LiteralNode)
     → length ends ≡ length nodes → AreEnds nodes ends → Stands nodes lexemes at k (labelled l (fields o rs x v))
     → names_from nodes ends (kinds_of lexemes) (at + 1) (get_or nodes at d).parts ≡ names_of_rows rs ++ x ∷ []
 field_names_are nodes ends lexemes at k l o rs x v d len known h =

@@ -5,26 +5,26 @@ use Rattle.std.proofs.lemmas.Option.{get_or_from_slice_get}
 use Rattle.base_data.specs.declared.model.value.Obj.{Obj}
 use Rattle.base_data.specs.model.Graph.{IsValue}
 use Rattle.marshal_heap.specs.heap.Heap.{set_field}
-use Rattle.text_literal.specs.declared.grammar.literal_node.NodeForm.TheVariants as forms
-use Rattle.text_literal.specs.declared.grammar.literal_node.LiteralNode.{LiteralNode}
-use Rattle.text_literal.specs.grammar.Literal.{Literal, labelled, again, Plain, integer, character, string, double, truth, unit, constant, applied, fields, tuple, empty_array, array, label_kinds, literal_kinds}
-use Rattle.types_parse.specs.grammar.Lexemes.{kinds_of}
-use Rattle.text_literal.specs.grammar.Nodes.{literal_nodes}
-use Rattle.text_literal.specs.declared.parser.fault.LiteralFault.{LiteralFault}
-use Rattle.text_literal.specs.declared.parser.fault.LiteralFault.TheVariants as faults
+use Rattle.text_literal.specs.declared.literal_grammar.literal_node.NodeForm.TheVariants as forms
+use Rattle.text_literal.specs.declared.literal_grammar.literal_node.LiteralNode.{LiteralNode}
+use Rattle.text_literal.specs.literal_grammar.Literal.{Literal, labelled, again, Plain, integer, character, string, double, truth, unit, constant, applied, fields, tuple, empty_array, array, label_kinds, literal_kinds}
+use Rattle.types_parse.specs.grammar.LexemeKinds.{kinds_of}
+use Rattle.text_literal.specs.literal_grammar.LiteralNodes.{literal_nodes}
+use Rattle.text_literal.specs.declared.parser.literal_fault.LiteralFault.{LiteralFault}
+use Rattle.text_literal.specs.declared.parser.literal_fault.LiteralFault.TheVariants as faults
 use Rattle.text_literal.specs.declared.parser.block_stack.Opened.{Opened}
 use Rattle.text_literal.specs.declared.parser.literal_text.LiteralText.{LiteralText}
 use Rattle.text_literal.specs.declared.parser.part.PartStart.{PartStart}
 use Rattle.text_literal.specs.parser.NodesOf.{form_of}
 use Rattle.text_literal.specs.parser.Pending.{finished}
-use Rattle.text_literal.specs.parser.Reading.{Reading, Refusal, literal_read}
+use Rattle.text_literal.specs.parser.LiteralReading.{LiteralReading, LiteralRefusal, literal_read}
 use Rattle.text_literal.specs.parser.LiteralAnswers.{shape_in, names_in}
 use Rattle.text_literal.specs.parser.Openings.{types_in}
 use Rattle.text_literal.specs.parser.Standing.{IsAt, Stands, own_node}
 use Rattle.text_literal.specs.parser.Underway.{PartList, Popped, opens_with, AreOpen, IsAdvanced, if_open, IsText, HasPart, IsGiven, IsBegun, IsUnderway, CanGoOn, MayRefuse, IsRefusedAs}
 use Rattle.text_literal.proofs.parser.StandingLemmas.{at_same, first_is, own_and_parts, lead_in}
 use Rattle.text_literal.proofs.parser.EndsLemmas.{position_in, own_length}
-use Rattle.text_literal.proofs.parser.PartLemmas.{IsNext, next_part, part_stands, part_refused, after_whole, after_inner}
+use Rattle.text_literal.proofs.parser.LiteralParserPartLemmas.{IsNext, next_part, part_stands, part_refused, after_whole, after_inner}
 
 -- ---- the node of a literal
 
@@ -90,13 +90,13 @@ popped_none old new None p other = p.0
 popped_none old new (Some b) p other = absurd (other b refl)
 
 nothing_open :
-    (text : LiteralText) (old : List Obj) (outcome : Result (List Obj) (Refusal ℕ)) (graph : List Obj) (labels : List ℕ) (all : List PartList) → AreOpen old graph (kinds_of text.lexemes.now) [] all
+    (text : LiteralText) (old : List Obj) (outcome : Result (List Obj) (LiteralRefusal ℕ)) (graph : List Obj) (labels : List ℕ) (all : List PartList) → AreOpen old graph (kinds_of text.lexemes.now) [] all
     → finished (shape_in text.table.now) (names_in text.table.now) (opens_with [] all) graph labels ≡ outcome → outcome ≡ Ok graph
 nothing_open text old outcome graph labels [] o same = sym same
 nothing_open text old outcome graph labels (p ∷ all) o same = absurd o
 
 pub all_finished :
-    (text : LiteralText) (old : List Obj) (outcome : Result (List Obj) (Refusal ℕ)) (stack : List Opened) (j : ℕ) (graph : List Obj) (labels : List ℕ) → stack ≡ []
+    (text : LiteralText) (old : List Obj) (outcome : Result (List Obj) (LiteralRefusal ℕ)) (stack : List Opened) (j : ℕ) (graph : List Obj) (labels : List ℕ) → stack ≡ []
     → IsUnderway text old outcome stack j graph labels → outcome ≡ Ok graph
 all_finished text old outcome stack j graph labels empty u =
     let v = subst (λ (blocks : List Opened). IsUnderway text old outcome blocks j graph labels) empty u in nothing_open text old outcome graph labels v.parts v.open_blocks v.same
@@ -108,11 +108,11 @@ module _ (text : LiteralText) (block : Opened) (stack : List Opened) (j : ℕ) (
   abbrev Here : (ℕ → Literal → Type 0) → Type 0
   Here P = (k : ℕ) (v : Literal) → Stands text.nodes.now text.lexemes.now j k v → All (λ o. o < length graph) labels → P k v
 
-  abbrev read : ℕ → ℕ → Literal → Result Reading (Refusal ℕ)
+  abbrev read : ℕ → ℕ → Literal → Result LiteralReading (LiteralRefusal ℕ)
   read at k v = literal_read (shape_in text.table.now) (names_in text.table.now) k v (length graph) labels at
 
   refused_as :
-      (old : List Obj) (outcome : Result (List Obj) (Refusal ℕ)) (n : IsNext text old outcome block stack j graph labels) (fault : LiteralFault)
+      (old : List Obj) (outcome : Result (List Obj) (LiteralRefusal ℕ)) (n : IsNext text old outcome block stack j graph labels) (fault : LiteralFault)
       → IsRefusedAs text.lexemes.now text.end (read t n.part.0 n.part.1) fault → IsRefusedAs text.lexemes.now text.end outcome fault
   refused_as old outcome n fault r = record {
     refusal = r.refusal;
@@ -122,7 +122,7 @@ module _ (text : LiteralText) (block : Opened) (stack : List Opened) (j : ℕ) (
 
   pub part_fault :
       (fault : LiteralFault) → Here (λ k v. MayRefuse text.lexemes.now text.end (read t k v) fault)
-      → (old : List Obj) (outcome : Result (List Obj) (Refusal ℕ)) → IsUnderway text old outcome (block ∷ stack) j graph labels → MayRefuse text.lexemes.now text.end outcome fault
+      → (old : List Obj) (outcome : Result (List Obj) (LiteralRefusal ℕ)) → IsUnderway text old outcome (block ∷ stack) j graph labels → MayRefuse text.lexemes.now text.end outcome fault
   part_fault faults.Memory here old outcome u = tt
   part_fault (faults.Syntax position) here old outcome u =
       let n = next_part text old outcome block stack j graph labels u in
@@ -143,7 +143,7 @@ module _ (text : LiteralText) (block : Opened) (stack : List Opened) (j : ℕ) (
         let n = next_part text old outcome block stack j graph labels u in
         let g = here n.part.0 n.part.1 (part_stands text old outcome block stack j graph labels n) n.labels_in in g.valid
 
-    module _ (advanced : Opened) (a : IsAdvanced block advanced) (old : List Obj) (outcome : Result (List Obj) (Refusal ℕ)) (u : IsUnderway text old outcome (block ∷ stack) j graph labels) where
+    module _ (advanced : Opened) (a : IsAdvanced block advanced) (old : List Obj) (outcome : Result (List Obj) (LiteralRefusal ℕ)) (u : IsUnderway text old outcome (block ∷ stack) j graph labels) where
       next : IsNext text old outcome block stack j graph labels
       next = next_part text old outcome block stack j graph labels u
 

@@ -5,11 +5,11 @@ use Rattle.std.proofs.lemmas.List.{append_assoc, append-nil, length-append}
 use Rattle.types_lex.specs.declared.lexeme.Symbol.{Symbol}
 use Rattle.types_lex.specs.declared.lexeme.Symbol.TheVariants as symbols
 use Rattle.types_parse.specs.grammar.Grammar.{Kinds, mark}
-use Rattle.text_literal.specs.declared.grammar.literal_node.NodeForm.{NodeForm}
-use Rattle.text_literal.specs.declared.grammar.literal_node.NodeForm.TheVariants as forms
-use Rattle.text_literal.specs.declared.grammar.literal_node.LiteralNode.{LiteralNode}
-use Rattle.text_literal.specs.grammar.Literal.{Literal, Plain, integer, character, string, double, truth, unit, constant, applied, fields, tuple, empty_array, array, Parts, no_parts, more_parts, Rows, no_rows, more_rows, label_kinds, head_kinds, owner_kinds, row_start, literal_kinds, parts_kinds, rows_kinds}
-use Rattle.text_literal.specs.grammar.Nodes.{node, count, rows_count, literal_nodes, plain_nodes, parts_nodes, rows_nodes}
+use Rattle.text_literal.specs.declared.literal_grammar.literal_node.NodeForm.{NodeForm}
+use Rattle.text_literal.specs.declared.literal_grammar.literal_node.NodeForm.TheVariants as forms
+use Rattle.text_literal.specs.declared.literal_grammar.literal_node.LiteralNode.{LiteralNode}
+use Rattle.text_literal.specs.literal_grammar.Literal.{Literal, Plain, integer, character, string, double, truth, unit, constant, applied, fields, tuple, empty_array, array, Parts, no_parts, more_parts, FieldRows, no_rows, more_rows, label_kinds, head_kinds, owner_kinds, row_start, literal_kinds, parts_kinds, rows_kinds}
+use Rattle.text_literal.specs.literal_grammar.LiteralNodes.{node, count, rows_count, literal_nodes, plain_nodes, parts_nodes, rows_nodes}
 use Rattle.text_literal.specs.parser.Pending.{listed_parts, listed_rows, parts_of}
 use Rattle.text_literal.specs.parser.NodesOf.{form_of, part_nodes, nodes_of_parts}
 
@@ -29,7 +29,7 @@ parts_listed separator k (more_parts ps v) =
     and_last (listed_parts separator k ps) (k + length (parts_kinds separator ps)) _ v refl
     ∙ ap (λ all. all ++ literal_nodes (k + length (parts_kinds separator ps)) v) (parts_listed separator k ps)
 
-rows_listed : (k : ℕ) (rs : Rows) → nodes_of_parts (listed_rows k rs) ≡ rows_nodes k rs
+rows_listed : (k : ℕ) (rs : FieldRows) → nodes_of_parts (listed_rows k rs) ≡ rows_nodes k rs
 rows_listed k no_rows = refl
 rows_listed k (more_rows rs x v) =
     and_last (listed_rows k rs) (k + length (rows_kinds rs ++ row_start x)) _ v refl
@@ -40,7 +40,7 @@ count_parts separator k no_parts = refl
 count_parts separator k (more_parts ps v) =
     omega (arith, length-append (listed_parts separator k ps) ((k + length (parts_kinds separator ps), v) ∷ []), count_parts separator k ps)
 
-pub count_rows : (k : ℕ) (rs : Rows) → length (listed_rows k rs) ≡ rows_count rs
+pub count_rows : (k : ℕ) (rs : FieldRows) → length (listed_rows k rs) ≡ rows_count rs
 count_rows k no_rows = refl
 count_rows k (more_rows rs x v) =
     omega (arith, length-append (listed_rows k rs) ((k + length (rows_kinds rs ++ row_start x), v) ∷ []), count_rows k rs)
@@ -68,7 +68,7 @@ listed_last separator j k ps m n v same last =
     ∙ ap (λ all. all ++ literal_nodes n v) (parts_listed separator j ps)
     ∙ ap (λ i. parts_nodes separator i ps ++ literal_nodes n v) same
 
-rows_last : (j k : ℕ) (rs : Rows) (m n : ℕ) (v : Literal) → j ≡ k → m ≡ n → nodes_of_parts (listed_rows j rs ++ (m, v) ∷ []) ≡ rows_nodes k rs ++ literal_nodes n v
+rows_last : (j k : ℕ) (rs : FieldRows) (m n : ℕ) (v : Literal) → j ≡ k → m ≡ n → nodes_of_parts (listed_rows j rs ++ (m, v) ∷ []) ≡ rows_nodes k rs ++ literal_nodes n v
 rows_last j k rs m n v same last =
     and_last (listed_rows j rs) m n v last
     ∙ ap (λ all. all ++ literal_nodes n v) (rows_listed j rs)

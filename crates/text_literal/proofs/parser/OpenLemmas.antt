@@ -7,9 +7,9 @@ use Rattle.base_data.specs.declared.model.value.Val.{Val}
 use Rattle.base_data.specs.declared.model.value.Obj.{Obj}
 use Rattle.base_data.specs.declared.model.value.Obj.TheVariants as objects
 use Rattle.marshal_heap.specs.heap.Heap.{object_at, fields_of, with_field, set_field}
-use Rattle.marshal_heap.proofs.heap.FieldLemmas.{length-set_field}
+use Rattle.marshal_heap.proofs.heap.HeapFieldLemmas.{length-set_field}
 use Rattle.types_parse.specs.grammar.Grammar.{Kinds}
-use Rattle.text_literal.specs.grammar.Literal.{Literal}
+use Rattle.text_literal.specs.literal_grammar.Literal.{Literal}
 use Rattle.text_literal.specs.declared.parser.block_stack.Opened.{Opened}
 use Rattle.text_literal.specs.parser.Underway.{PartList, IsAdvanced, IsOpen, AreOpen}
 

@@ -11,25 +11,25 @@ use Rattle.types_spec.specs.declared.types.shape.ShapeOf.{ShapeOf}
 use Rattle.types_lex.specs.declared.lexeme.Symbol.{Symbol}
 use Rattle.types_lex.specs.declared.lexeme.Symbol.TheVariants as symbols
 use Rattle.marshal_heap.specs.heap.Heap.{set_field}
-use Rattle.marshal_heap.proofs.heap.FieldLemmas.{length-set_field, set_field-append, set_field_at}
-use Rattle.text_literal.specs.grammar.Literal.{Literal, Plain, integer, character, string, double, truth, unit, constant, applied, fields, tuple, empty_array, array, Parts, no_parts, more_parts, Rows, no_rows, more_rows, row_start, label_kinds, parts_kinds, rows_kinds, labelled}
-use Rattle.text_literal.specs.parser.Reading.{Reading, Refusal, reading, added, and_next, literal_read, inside, parts_read, rows_read, is_next, with_label, begun, block_read, label_at}
+use Rattle.marshal_heap.proofs.heap.HeapFieldLemmas.{length-set_field, set_field-append, set_field_at}
+use Rattle.text_literal.specs.literal_grammar.Literal.{Literal, Plain, integer, character, string, double, truth, unit, constant, applied, fields, tuple, empty_array, array, Parts, no_parts, more_parts, FieldRows, no_rows, more_rows, row_start, label_kinds, parts_kinds, rows_kinds, labelled}
+use Rattle.text_literal.specs.parser.LiteralReading.{LiteralReading, LiteralRefusal, reading, added, and_next, literal_read, inside, parts_read, rows_read, is_next, with_label, begun, block_read, label_at}
 use Rattle.text_literal.specs.parser.Pending.{listed_parts, listed_rows, parts_of, fill, Open, then_row, open_at, row_read, finished, write}
 use Rattle.text_literal.specs.parser.Starts.{block, start_at}
-use Rattle.text_literal.proofs.parser.AnswerLemmas.{HasOneValue, literal_one}
+use Rattle.text_literal.proofs.parser.LiteralParserAnswerLemmas.{HasOneValue, literal_one}
 
 -- ---- lists of parts
 
-abbrev pub HasValues : {T : Type 0} → ℕ → Result Reading (Refusal T) → Type 0
+abbrev pub HasValues : {T : Type 0} → ℕ → Result LiteralReading (LiteralRefusal T) → Type 0
 HasValues n (Err refusal) = Unit {0}
 HasValues n (Ok r) = length r.values ≡ n
 
-added_values : (T : Type 0) (n : ℕ) (one : Reading) (v : Val) → one.values ≡ v ∷ [] → (all : Result Reading (Refusal T)) → HasValues n all → HasValues (suc n) (added one all)
+added_values : (T : Type 0) (n : ℕ) (one : LiteralReading) (v : Val) → one.values ≡ v ∷ [] → (all : Result LiteralReading (LiteralRefusal T)) → HasValues n all → HasValues (suc n) (added one all)
 added_values T n one v single (Err refusal) many = tt
 added_values T n one v single (Ok r) many = ap (λ vs. length (vs ++ r.values)) single ∙ ap suc many
 
 then_values :
-    (T : Type 0) (n c : ℕ) (one : Result Reading (Refusal T)) (next : ℕ → List ℕ → Result Reading (Refusal T))
+    (T : Type 0) (n c : ℕ) (one : Result LiteralReading (LiteralRefusal T)) (next : ℕ → List ℕ → Result LiteralReading (LiteralRefusal T))
     → HasOneValue one → ((d : ℕ) (labels : List ℕ) → HasValues n (next d labels)) → HasValues (suc n) (then_row c one next)
 then_values T n c (Err refusal) next single many = tt
 then_values T n c (Ok one) next (v, single) many = added_values T n one v single _ (many _ _)
@@ -43,23 +43,23 @@ module _ {T : Type 0} (shape : T → ShapeOf T) (names : T → Names) where
 
 -- ---- one more part at the end
 
-abbrev pub and_at : {T : Type 0} → ℕ → ℕ → (ℕ → T) → Result Reading (Refusal T) → (ℕ → List ℕ → T → Result Reading (Refusal T)) → Result Reading (Refusal T)
+abbrev pub and_at : {T : Type 0} → ℕ → ℕ → (ℕ → T) → Result LiteralReading (LiteralRefusal T) → (ℕ → List ℕ → T → Result LiteralReading (LiteralRefusal T)) → Result LiteralReading (LiteralRefusal T)
 and_at c i types (Err refusal) next = Err refusal
 and_at c i types (Ok one) next = added one (next (c + length one.objects) one.labels (types (i + length one.values)))
 
-added_nothing : (T : Type 0) (one : Reading) → added {T = T} one (Ok (reading [] [] one.labels)) ≡ Ok one
+added_nothing : (T : Type 0) (one : LiteralReading) → added {T = T} one (Ok (reading [] [] one.labels)) ≡ Ok one
 added_nothing T one = ap (λ vs. Ok (reading vs (one.objects ++ []) one.labels)) (append-nil one.values) ∙ ap (λ os. Ok (reading one.values os one.labels)) (append-nil one.objects)
 
-then_nothing : (T : Type 0) (c : ℕ) (one : Result Reading (Refusal T)) → then_row c one (λ d more. Ok (reading [] [] more)) ≡ one
+then_nothing : (T : Type 0) (c : ℕ) (one : Result LiteralReading (LiteralRefusal T)) → then_row c one (λ d more. Ok (reading [] [] more)) ≡ one
 then_nothing T c (Err refusal) = refl
 then_nothing T c (Ok one) = added_nothing T one
 
-nothing_added : (T : Type 0) (labels : List ℕ) (one : Result Reading (Refusal T)) → added (reading [] [] labels) one ≡ one
+nothing_added : (T : Type 0) (labels : List ℕ) (one : Result LiteralReading (LiteralRefusal T)) → added (reading [] [] labels) one ≡ one
 nothing_added T labels (Err refusal) = refl
 nothing_added T labels (Ok one) = refl
 
 added_twice :
-    (T : Type 0) (a b : Reading) (r : Result Reading (Refusal T))
+    (T : Type 0) (a b : LiteralReading) (r : Result LiteralReading (LiteralRefusal T))
     → added a (added b r) ≡ added (reading (a.values ++ b.values) (a.objects ++ b.objects) b.labels) r
 added_twice T a b (Err refusal) = refl
 added_twice T a b (Ok r) =
@@ -67,7 +67,7 @@ added_twice T a b (Ok r) =
     ∙ ap (λ os. Ok (reading ((a.values ++ b.values) ++ r.values) os r.labels)) (sym (append_assoc a.objects b.objects r.objects))
 
 both :
-    (T : Type 0) (c i : ℕ) (types : ℕ → T) (one : Reading) (v : Val) → one.values ≡ v ∷ [] → (r : Result Reading (Refusal T)) (next : ℕ → List ℕ → T → Result Reading (Refusal T))
+    (T : Type 0) (c i : ℕ) (types : ℕ → T) (one : LiteralReading) (v : Val) → one.values ≡ v ∷ [] → (r : Result LiteralReading (LiteralRefusal T)) (next : ℕ → List ℕ → T → Result LiteralReading (LiteralRefusal T))
     → added one (and_at (c + length one.objects) (suc i) types r next) ≡ and_at c i types (added one r) next
 both T c i types one v single (Err refusal) next = refl
 both T c i types one v single (Ok r) next =
@@ -78,7 +78,7 @@ both T c i types one v single (Ok r) next =
     (omega (arith, length-append one.values r.values, ap length single))
 
 then_both :
-    (T : Type 0) (c i : ℕ) (types : ℕ → T) (one : Result Reading (Refusal T)) (row all : ℕ → List ℕ → Result Reading (Refusal T)) (next : ℕ → List ℕ → T → Result Reading (Refusal T))
+    (T : Type 0) (c i : ℕ) (types : ℕ → T) (one : Result LiteralReading (LiteralRefusal T)) (row all : ℕ → List ℕ → Result LiteralReading (LiteralRefusal T)) (next : ℕ → List ℕ → T → Result LiteralReading (LiteralRefusal T))
     → HasOneValue one → ((d : ℕ) (labels : List ℕ) → all d labels ≡ and_at d (suc i) types (row d labels) next)
     → then_row c one all ≡ and_at c i types (then_row c one row) next
 then_both T c i types (Err refusal) row all next single same = refl
@@ -101,7 +101,7 @@ module _ {T : Type 0} (shape : T → ShapeOf T) (names : T → Names) where
 
 -- ---- the parts of a plain literal as a list
 
-first_part : (T : Type 0) (c : ℕ) (types : ℕ → T) (row : Result Reading (Refusal T)) (next : ℕ → List ℕ → T → Result Reading (Refusal T)) → and_next c types row next ≡ and_at c 0 types row next
+first_part : (T : Type 0) (c : ℕ) (types : ℕ → T) (row : Result LiteralReading (LiteralRefusal T)) (next : ℕ → List ℕ → T → Result LiteralReading (LiteralRefusal T)) → and_next c types row next ≡ and_at c 0 types row next
 first_part T c types (Err refusal) next = refl
 first_part T c types (Ok one) next = ap (λ n. added one (next (c + length one.objects) one.labels (types n))) (omega arith)
 
@@ -109,7 +109,7 @@ module _ {T : Type 0} (shape : T → ShapeOf T) (names : T → Names) where
   -- The reading of a list of parts with one more part is the reading of the list, followed by the
   -- reading of the part.
   and_last :
-      (parts : List (ℕ × Literal)) (k : ℕ) (v : Literal) (c : ℕ) (labels : List ℕ) (types : ℕ → T) (row : Result Reading (Refusal T)) → row ≡ row_read shape names parts c labels 0 types
+      (parts : List (ℕ × Literal)) (k : ℕ) (v : Literal) (c : ℕ) (labels : List ℕ) (types : ℕ → T) (row : Result LiteralReading (LiteralRefusal T)) → row ≡ row_read shape names parts c labels 0 types
       → and_next c types row (literal_read shape names k v) ≡ row_read shape names (parts ++ (k, v) ∷ []) c labels 0 types
   and_last parts k v c labels types row same =
       ap (λ all. and_next c types all (literal_read shape names k v)) same
@@ -124,7 +124,7 @@ module _ {T : Type 0} (shape : T → ShapeOf T) (names : T → Names) where
       and_last (listed_parts separator k ps) (k + length (parts_kinds separator ps)) v c labels types _ (parts_row separator k ps c labels types)
 
   rows_row :
-      (k : ℕ) (rs : Rows) (c : ℕ) (labels : List ℕ) (types : ℕ → T)
+      (k : ℕ) (rs : FieldRows) (c : ℕ) (labels : List ℕ) (types : ℕ → T)
       → rows_read shape names k rs c labels types ≡ row_read shape names (listed_rows k rs) c labels 0 types
   rows_row k no_rows c labels types = refl
   rows_row k (more_rows rs x v) c labels types =
@@ -172,7 +172,7 @@ fill_from xs tag prefix (r ∷ rest) b i (v ∷ values) e d l =
 
 module _ {T : Type 0} (shape : T → ShapeOf T) (names : T → Names) where
   write_more :
-      (opens : List (Open T)) (graph : List Obj) (b i : ℕ) (x : Val) (objs : List Obj) (more : List ℕ) → b < length graph → (r : Result Reading (Refusal T))
+      (opens : List (Open T)) (graph : List Obj) (b i : ℕ) (x : Val) (objs : List Obj) (more : List ℕ) → b < length graph → (r : Result LiteralReading (LiteralRefusal T))
       → write (finished shape names opens) graph b i (added (reading (x ∷ []) objs more) r) ≡ write (finished shape names opens) (set_field graph b i x ++ objs) b (suc i) r
   write_more opens graph b i x objs more h (Err refusal) = refl
   write_more opens graph b i x objs more h (Ok r) =
@@ -193,7 +193,7 @@ module _ {T : Type 0} (shape : T → ShapeOf T) (names : T → Names) where
 
   -- Case: the next part is refused.
   pub refused :
-      (b i n : ℕ) (types : ℕ → T) (k : ℕ) (v : Literal) (ps : List (ℕ × Literal)) (opens : List (Open T)) (graph : List Obj) (labels : List ℕ) (refusal : Refusal T)
+      (b i n : ℕ) (types : ℕ → T) (k : ℕ) (v : Literal) (ps : List (ℕ × Literal)) (opens : List (Open T)) (graph : List Obj) (labels : List ℕ) (refusal : LiteralRefusal T)
       → literal_read shape names k v (length graph) labels (types n) ≡ Err refusal
       → finished shape names (open_at b i n types ((k, v) ∷ ps) ∷ opens) graph labels ≡ Err refusal
   refused b i n types k v ps opens graph labels refusal read =
@@ -225,7 +225,7 @@ module _ {T : Type 0} (shape : T → ShapeOf T) (names : T → Names) where
   -- after the block are read.
   block_written :
       (b i n : ℕ) (types : ℕ → T) (k : ℕ) (v : Literal) (ps : List (ℕ × Literal)) (opens : List (Open T)) (graph : List Obj) (labels : List ℕ)
-      (tag : ℕ) (prefix : List Val) (many : ℕ) → b < length graph → (row : Result Reading (Refusal T)) → HasValues many row
+      (tag : ℕ) (prefix : List Val) (many : ℕ) → b < length graph → (row : Result LiteralReading (LiteralRefusal T)) → HasValues many row
       → literal_read shape names k v (length graph) labels (types n) ≡ block_read (length graph) tag prefix row
       → finished shape names (open_at b i n types ((k, v) ∷ ps) ∷ opens) graph labels
       ≡ write (finished shape names (open_at b (suc i) (suc n) types ps ∷ opens))

@@ -9,10 +9,10 @@ use Rattle.types_lex.specs.declared.lexeme.LexemeKind.{LexemeKind}
 use Rattle.types_lex.specs.declared.lexeme.Symbol.{Symbol}
 use Rattle.types_lex.specs.declared.lexeme.Symbol.TheVariants as symbols
 use Rattle.types_parse.specs.grammar.Grammar.{Kinds, mark}
-use Rattle.text_literal.specs.grammar.Literal.{Head, upper_head, tag_head, cons_head, empty_head, ref_head, Literal, labelled, again, Plain, integer, character, string, double, truth, unit, constant, applied, fields, tuple, empty_array, array, Parts, no_parts, more_parts, Rows, no_rows, more_rows, label_kinds, head_kinds, owner_kinds, row_start, literal_kinds, plain_kinds, parts_kinds, rows_kinds}
-use Rattle.types_parse.specs.grammar.Lexemes.{kinds_of}
-use Rattle.text_literal.specs.grammar.Nodes.{literal_nodes}
-use Rattle.text_literal.specs.parser.Leaves.{lead_of}
+use Rattle.text_literal.specs.literal_grammar.Literal.{LiteralHead, upper_head, tag_head, cons_head, empty_head, ref_head, Literal, labelled, again, Plain, integer, character, string, double, truth, unit, constant, applied, fields, tuple, empty_array, array, Parts, no_parts, more_parts, FieldRows, no_rows, more_rows, label_kinds, head_kinds, owner_kinds, row_start, literal_kinds, plain_kinds, parts_kinds, rows_kinds}
+use Rattle.types_parse.specs.grammar.LexemeKinds.{kinds_of}
+use Rattle.text_literal.specs.literal_grammar.LiteralNodes.{literal_nodes}
+use Rattle.text_literal.specs.parser.LiteralLeaves.{lead_of}
 use Rattle.text_literal.specs.parser.Pending.{listed_parts, listed_rows, parts_of}
 use Rattle.text_literal.specs.parser.NodesOf.{nodes_of_parts}
 use Rattle.text_literal.specs.parser.Standing.{IsAt, own_node, inner_parts, AreEncoded, lead_of_owner, lead_of_plain}
@@ -75,7 +75,7 @@ parts_encoded all separator k (more_parts ps v) h =
     (parts_encoded all separator k ps (at_prefix all k (parts_kinds separator ps) (literal_kinds v) both))
     (at_back all k (parts_kinds separator ps) (literal_kinds v) both, tt)
 
-rows_encoded : (all : Kinds) (k : ℕ) (rs : Rows) → IsAt all k (rows_kinds rs) → AreEncoded all (listed_rows k rs)
+rows_encoded : (all : Kinds) (k : ℕ) (rs : FieldRows) → IsAt all k (rows_kinds rs) → AreEncoded all (listed_rows k rs)
 rows_encoded all k no_rows h = tt
 rows_encoded all k (more_rows rs x v) h =
     let both = at_prefix all k (rows_kinds rs ++ row_start x ++ literal_kinds v) (mark symbols.Semicolon) h in
@@ -142,7 +142,7 @@ literal_encoded all k (again n) h = tt
 abbrev BeginsWith : Kinds → LexemeKind → Type 0
 BeginsWith own kind = (more : Kinds) × (own ≡ kind ∷ more)
 
-head_led : (h : Head) (more : Kinds) → BeginsWith (head_kinds h ++ more) (lead_of h)
+head_led : (h : LiteralHead) (more : Kinds) → BeginsWith (head_kinds h ++ more) (lead_of h)
 head_led (upper_head x) more = (_, refl)
 head_led (tag_head x) more = (_, refl)
 head_led cons_head more = (_, refl)
@@ -154,11 +154,11 @@ head_led ref_head more = (_, refl)
 led_more : (own more : Kinds) (kind : LexemeKind) → BeginsWith own kind → BeginsWith (own ++ more) kind
 led_more own more kind h = (h.0 ++ more, ap (λ all. all ++ more) h.1)
 
-owner_led : (o : Option Head) → BeginsWith (owner_kinds o ++ mark symbols.OpenBrace) (lead_of_owner o)
+owner_led : (o : Option LiteralHead) → BeginsWith (owner_kinds o ++ mark symbols.OpenBrace) (lead_of_owner o)
 owner_led None = (_, refl)
 owner_led (Some h) = head_led h (mark symbols.OpenBrace)
 
-head_alone : (h : Head) → BeginsWith (head_kinds h) (lead_of h)
+head_alone : (h : LiteralHead) → BeginsWith (head_kinds h) (lead_of h)
 head_alone h = (((head_led h []).0), sym (append-nil (head_kinds h)) ∙ (head_led h []).1)
 
 plain_led : (p : Plain) → BeginsWith (plain_kinds p) (lead_of_plain p)

@@ -4,10 +4,10 @@ use Rattle.std.specs.List.{fold}
 use Rattle.types_lex.specs.declared.lexeme.LexemeKind.{LexemeKind}
 use Rattle.types_lex.specs.declared.lexeme.LexemeKind.TheVariants as kinds
 use Rattle.types_parse.specs.grammar.Grammar.{Kinds}
-use Rattle.text_literal.specs.declared.grammar.literal_node.NodeForm.{NodeForm}
-use Rattle.text_literal.specs.declared.grammar.literal_node.NodeForm.TheVariants as forms
-use Rattle.text_literal.specs.declared.grammar.literal_node.LiteralNode.{LiteralNode}
-use Rattle.text_literal.specs.grammar.Literal.{Literal}
+use Rattle.text_literal.specs.declared.literal_grammar.literal_node.NodeForm.{NodeForm}
+use Rattle.text_literal.specs.declared.literal_grammar.literal_node.NodeForm.TheVariants as forms
+use Rattle.text_literal.specs.declared.literal_grammar.literal_node.LiteralNode.{LiteralNode}
+use Rattle.text_literal.specs.literal_grammar.Literal.{Literal}
 use Rattle.text_literal.specs.parser.Starts.{bits_of, and_bits}
 
 abbrev pub double_in : Option LexemeKind → Option ℕ

@@ -3,8 +3,8 @@ use Rattle.std.specs.Prelude.{ℕ, zero, suc, ◌-◌, nat_lt, if◌then◌else�
 use Rattle.std.specs.Prelude.{[], ◌∷◌, length, slice_get}
 use Rattle.types_lex.specs.Lexemes.{lower_name}
 use Rattle.types_parse.specs.grammar.Grammar.{Name, Kinds}
-use Rattle.text_literal.specs.declared.grammar.literal_node.LiteralNode.{LiteralNode}
-use Rattle.text_literal.specs.parser.Ends.{sibling}
+use Rattle.text_literal.specs.declared.literal_grammar.literal_node.LiteralNode.{LiteralNode}
+use Rattle.text_literal.specs.parser.SubtreeEnds.{sibling}
 
 -- The name of the field whose value begins at lexeme k.
 abbrev pub name_before : Kinds → ℕ → Name

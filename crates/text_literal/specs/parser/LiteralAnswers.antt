@@ -4,18 +4,19 @@ use Rattle.std.specs.Prelude.{slice_get, ⊤}
 use Rattle.base_data.specs.declared.model.value.Val.{Val}
 use Rattle.base_data.specs.declared.model.value.Obj.{Obj}
 use Rattle.types_lex.specs.declared.lexeme.Lexeme.{Lexeme}
-use Rattle.text_literal.specs.declared.parser.fault.LiteralFault.{LiteralFault}
-use Rattle.text_literal.specs.declared.parser.fault.LiteralFault.TheVariants as faults
+use Rattle.text_literal.specs.declared.parser.literal_fault.LiteralFault.{LiteralFault}
+use Rattle.text_literal.specs.declared.parser.literal_fault.LiteralFault.TheVariants as faults
 use Rattle.types_spec.specs.declared.types.names.Names.{Names}
 use Rattle.types_spec.specs.declared.types.shape.ShapeOf.{ShapeOf}
 use Rattle.types_spec.specs.types.Names.{no_names}
 use Rattle.types_spec.specs.types.Table.{node_or_none}
 use Rattle.types_table.specs.declared.type_table.tabled.Tabled.{Tabled}
 use Rattle.types_parse.specs.grammar.Refusals.{IsSyntax}
-use Rattle.text_literal.specs.grammar.Literal.{Literal, literal_kinds}
-use Rattle.types_parse.specs.grammar.Lexemes.{kinds_of}
-use Rattle.text_literal.specs.parser.Reading.{Refusal, mismatch_at, int_range_at, label_at, IsRead}
-use Rattle.text_literal.specs.parser.Reading.{IsRefused}
+use Rattle.text_literal.specs.literal_grammar.Literal.{Literal, literal_kinds}
+use Rattle.types_parse.specs.grammar.LexemeKinds.{kinds_of}
+use Rattle.text_literal.specs.parser.LiteralReading.{LiteralRefusal, mismatch_at, int_range_at}
+use Rattle.text_literal.specs.parser.LiteralReading.{label_at, IsRead}
+use Rattle.text_literal.specs.parser.LiteralReading.{IsRefused}
 
 -- The byte offset at which lexeme `k` begins, or `end` if there is no lexeme `k`.
 abbrev pub byte_of : List Lexeme → ℕ → ℕ → ℕ
@@ -23,12 +24,12 @@ byte_of lexemes end k =
     unwrap_or (option_map (λ (lexeme : Lexeme). lexeme.span.first) (slice_get lexemes k)) end
 
 -- The refusal with byte offsets in place of lexeme indices.
-abbrev pub in_bytes : {T : Type 0} → List Lexeme → ℕ → Refusal T → Refusal T
+abbrev pub in_bytes : {T : Type 0} → List Lexeme → ℕ → LiteralRefusal T → LiteralRefusal T
 in_bytes lexemes end (mismatch_at k t) = mismatch_at (byte_of lexemes end k) t
 in_bytes lexemes end (int_range_at k) = int_range_at (byte_of lexemes end k)
 in_bytes lexemes end (label_at k) = label_at (byte_of lexemes end k)
 
-abbrev pub fault_of : Refusal ℕ → LiteralFault
+abbrev pub fault_of : LiteralRefusal ℕ → LiteralFault
 fault_of (mismatch_at position t) = faults.Mismatch position t
 fault_of (int_range_at position) = faults.IntRange position
 fault_of (label_at position) = faults.Label position
@@ -57,7 +58,7 @@ pub record IsValue (table : Tabled) (at : ℕ) (lexemes : List Lexeme) (old new 
 pub record IsMisread (table : Tabled) (at : ℕ) (lexemes : List Lexeme) (end : ℕ) (count : ℕ)
     (fault : LiteralFault) : Type 0 where
   pub literal : Literal
-  pub refusal : Refusal ℕ
+  pub refusal : LiteralRefusal ℕ
   pub encoded : literal_kinds literal ≡ kinds_of lexemes
   pub refused : IsRefused (shape_in table) (names_in table) literal at count refusal
   pub is : fault ≡ fault_of (in_bytes lexemes end refusal)

@@ -1,12 +1,14 @@
 -- The nodes of a literal, in terms of the nodes of the literal's parts.
 use Rattle.std.specs.Prelude.{ℕ, List, flat_map}
-use Rattle.text_literal.specs.declared.grammar.literal_node.NodeForm.{NodeForm}
-use Rattle.text_literal.specs.declared.grammar.literal_node.NodeForm.TheVariants as forms
-use Rattle.text_literal.specs.declared.grammar.literal_node.LiteralNode.{LiteralNode}
-use Rattle.text_literal.specs.grammar.Literal.{Literal, Plain, integer, character, string, double}
-use Rattle.text_literal.specs.grammar.Literal.{truth, unit, constant, applied, fields, tuple}
-use Rattle.text_literal.specs.grammar.Literal.{empty_array, array}
-use Rattle.text_literal.specs.grammar.Nodes.{literal_nodes}
+use Rattle.text_literal.specs.declared.literal_grammar.literal_node.NodeForm.{NodeForm}
+use Rattle.text_literal.specs.declared.literal_grammar.literal_node.NodeForm.TheVariants as forms
+use Rattle.text_literal.specs.declared.literal_grammar.literal_node.LiteralNode.{LiteralNode}
+use Rattle.text_literal.specs.literal_grammar.Literal.{Literal, Plain, integer, character, string}
+use Rattle.text_literal.specs.literal_grammar.Literal.{double}
+use Rattle.text_literal.specs.literal_grammar.Literal.{truth, unit, constant, applied, fields}
+use Rattle.text_literal.specs.literal_grammar.Literal.{tuple}
+use Rattle.text_literal.specs.literal_grammar.Literal.{empty_array, array}
+use Rattle.text_literal.specs.literal_grammar.LiteralNodes.{literal_nodes}
 use Rattle.text_literal.specs.parser.Pending.{Open}
 
 abbrev pub form_of : Plain → NodeForm

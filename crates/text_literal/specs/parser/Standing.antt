@@ -6,15 +6,17 @@ use Rattle.types_lex.specs.declared.lexeme.LexemeKind.{LexemeKind}
 use Rattle.types_lex.specs.declared.lexeme.LexemeKind.TheVariants as kinds
 use Rattle.types_lex.specs.declared.lexeme.Symbol.TheVariants as symbols
 use Rattle.types_parse.specs.grammar.Grammar.{Kinds}
-use Rattle.text_literal.specs.declared.grammar.literal_node.NodeForm.TheVariants as forms
-use Rattle.text_literal.specs.declared.grammar.literal_node.LiteralNode.{LiteralNode}
-use Rattle.text_literal.specs.grammar.Literal.{Head, Literal, labelled, again, Plain, integer}
-use Rattle.text_literal.specs.grammar.Literal.{character, string, double, truth, unit, constant}
-use Rattle.text_literal.specs.grammar.Literal.{applied, fields, tuple, empty_array, array}
-use Rattle.text_literal.specs.grammar.Literal.{label_kinds, truth_name, literal_kinds}
-use Rattle.types_parse.specs.grammar.Lexemes.{kinds_of}
-use Rattle.text_literal.specs.grammar.Nodes.{node, literal_nodes}
-use Rattle.text_literal.specs.parser.Leaves.{lead_of}
+use Rattle.text_literal.specs.declared.literal_grammar.literal_node.NodeForm.TheVariants as forms
+use Rattle.text_literal.specs.declared.literal_grammar.literal_node.LiteralNode.{LiteralNode}
+use Rattle.text_literal.specs.literal_grammar.Literal.{LiteralHead, Literal, labelled, again, Plain}
+use Rattle.text_literal.specs.literal_grammar.Literal.{integer}
+use Rattle.text_literal.specs.literal_grammar.Literal.{character, string, double, truth, unit}
+use Rattle.text_literal.specs.literal_grammar.Literal.{constant}
+use Rattle.text_literal.specs.literal_grammar.Literal.{applied, fields, tuple, empty_array, array}
+use Rattle.text_literal.specs.literal_grammar.Literal.{label_kinds, truth_name, literal_kinds}
+use Rattle.types_parse.specs.grammar.LexemeKinds.{kinds_of}
+use Rattle.text_literal.specs.literal_grammar.LiteralNodes.{node, literal_nodes}
+use Rattle.text_literal.specs.parser.LiteralLeaves.{lead_of}
 use Rattle.text_literal.specs.parser.Pending.{parts_of}
 use Rattle.text_literal.specs.parser.NodesOf.{form_of}
 
@@ -46,7 +48,7 @@ AreEncoded all parts =
 
 -- ---- the first lexeme of a plain literal
 
-abbrev pub lead_of_owner : Option Head → LexemeKind
+abbrev pub lead_of_owner : Option LiteralHead → LexemeKind
 lead_of_owner None = kinds.Symbol symbols.OpenBrace
 lead_of_owner (Some h) = lead_of h
 

@@ -4,7 +4,7 @@ use Rattle.base_data.specs.declared.model.value.Obj.TheVariants as objects
 use Rattle.text_literal.specs.declared.parser.start.Start.{Start as Code}
 use Rattle.text_literal.specs.declared.parser.start.Start.TheVariants as codes
 use Rattle.text_literal.specs.parser.Starts.{Start, whole}
-use Rattle.text_literal.specs.parser.Leaves as leaves
+use Rattle.text_literal.specs.parser.LiteralLeaves as leaves
 use Rattle.text_literal.specs.parser.Openings as openings
 
 -- The start in the definitions that the code's start denotes at the type with index t.

@@ -20,15 +20,17 @@ use Rattle.types_spec.specs.declared.types.shape.ShapeOf.{ShapeOf}
 use Rattle.types_spec.specs.declared.types.shape.ShapeOf.TheVariants as shapes
 use Rattle.types_spec.specs.types.Fitting.{tag_with}
 use Rattle.types_parse.specs.grammar.Grammar.{Name}
-use Rattle.text_literal.specs.grammar.Literal.{Head, upper_head, tag_head, cons_head, empty_head}
-use Rattle.text_literal.specs.grammar.Literal.{ref_head, Literal, labelled, Plain, integer}
-use Rattle.text_literal.specs.grammar.Literal.{character}
-use Rattle.text_literal.specs.grammar.Literal.{string, double, truth, unit, constant, applied}
-use Rattle.text_literal.specs.grammar.Literal.{fields}
-use Rattle.text_literal.specs.grammar.Literal.{tuple, empty_array, array, Parts, no_parts}
-use Rattle.text_literal.specs.grammar.Literal.{more_parts}
-use Rattle.text_literal.specs.grammar.Literal.{Rows, no_rows, more_rows, ref_name}
-use Rattle.text_literal.specs.grammar.Nodes.{count, rows_count}
+use Rattle.text_literal.specs.literal_grammar.Literal.{LiteralHead, upper_head, tag_head, cons_head}
+use Rattle.text_literal.specs.literal_grammar.Literal.{empty_head}
+use Rattle.text_literal.specs.literal_grammar.Literal.{ref_head, Literal, labelled, Plain, integer}
+use Rattle.text_literal.specs.literal_grammar.Literal.{character}
+use Rattle.text_literal.specs.literal_grammar.Literal.{string, double, truth, unit, constant}
+use Rattle.text_literal.specs.literal_grammar.Literal.{applied}
+use Rattle.text_literal.specs.literal_grammar.Literal.{fields}
+use Rattle.text_literal.specs.literal_grammar.Literal.{tuple, empty_array, array, Parts, no_parts}
+use Rattle.text_literal.specs.literal_grammar.Literal.{more_parts}
+use Rattle.text_literal.specs.literal_grammar.Literal.{FieldRows, no_rows, more_rows, ref_name}
+use Rattle.text_literal.specs.literal_grammar.LiteralNodes.{count, rows_count}
 
 -- The start of a literal at a type: a mismatch, or what the literal begins.
 pub data Start (T : Type 0) : Type 0 where
@@ -51,14 +53,14 @@ is_in_bits n (negsuc m) = nat_lt m (2 ^ n)
 
 -- ---- names
 
-abbrev pub constructor_name : Head → Option Name
+abbrev pub constructor_name : LiteralHead → Option Name
 constructor_name (upper_head x) = Some x
 constructor_name (tag_head x) = None
 constructor_name cons_head = Some (codes "::")
 constructor_name empty_head = Some (codes "[]")
 constructor_name ref_head = Some ref_name
 
-abbrev pub name_of_tag : Head → Option Name
+abbrev pub name_of_tag : LiteralHead → Option Name
 name_of_tag (tag_head x) = Some x
 name_of_tag head = None
 
@@ -67,7 +69,7 @@ same_names [] [] = true
 same_names (x ∷ xs) (y ∷ ys) = bytes_eq x y && same_names xs ys
 same_names xs ys = false
 
-abbrev pub names_of_rows : Rows → List Name
+abbrev pub names_of_rows : FieldRows → List Name
 names_of_rows no_rows = []
 names_of_rows (more_rows rs x v) = names_of_rows rs ++ x ∷ []
 
@@ -75,13 +77,13 @@ abbrev pub is_constr : Name → List Name → ConstrNames → Bool
 is_constr name wanted names = bytes_eq names.name name && same_names names.fields wanted
 
 -- The index of the constant constructor that the head names.
-abbrev pub constant_of_name : Names → Head → Option ℕ
+abbrev pub constant_of_name : Names → LiteralHead → Option ℕ
 constant_of_name names head =
     option_and_then (λ name. position (bytes_eq name) names.constants) (constructor_name head)
 
 -- The tag of the constructor that the head names and whose inline record has the fields `wanted`.
 -- If `wanted` is empty, the constructor has no inline record.
-abbrev pub tag_of_name : Names → List Name → Head → Option ℕ
+abbrev pub tag_of_name : Names → List Name → LiteralHead → Option ℕ
 tag_of_name names wanted head =
     option_and_then (λ name. position (is_constr name wanted) names.constructors)
     (constructor_name head)
@@ -101,7 +103,7 @@ abbrev pub bits_of_parts : Parts → Option (List ℕ)
 bits_of_parts no_parts = Some []
 bits_of_parts (more_parts ps v) = and_bits (bits_of_parts ps) (bits_of v)
 
-abbrev pub bits_of_rows : Rows → Option (List ℕ)
+abbrev pub bits_of_rows : FieldRows → Option (List ℕ)
 bits_of_rows no_rows = Some []
 bits_of_rows (more_rows rs x v) = and_bits (bits_of_rows rs) (bits_of v)
 
@@ -219,7 +221,7 @@ module _ {T : Type 0} where
 
   -- ---- tags of polymorphic variants
 
-  abbrev pub tag_named : List (PolyTag T) → Names → Head → Option (PolyTag T)
+  abbrev pub tag_named : List (PolyTag T) → Names → LiteralHead → Option (PolyTag T)
   tag_named tags names head =
       option_and_then (λ (tag : TagName). tag_with tags tag.hash)
       (option_and_then (λ name. find (λ (tag : TagName). bytes_eq tag.name name) names.tags)

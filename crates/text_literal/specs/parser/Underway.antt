@@ -11,11 +11,11 @@ use Rattle.types_lex.specs.declared.lexeme.Lexeme.{Lexeme}
 use Rattle.marshal_heap.specs.heap.Heap.{object_at, fields_of}
 use Rattle.types_table.specs.declared.type_table.tabled.Tabled.{Tabled}
 use Rattle.types_parse.specs.grammar.Grammar.{Kinds}
-use Rattle.text_literal.specs.grammar.Literal.{Literal, labelled, Plain, literal_kinds}
-use Rattle.types_parse.specs.grammar.Lexemes.{kinds_of}
-use Rattle.text_literal.specs.grammar.Nodes.{literal_nodes}
-use Rattle.text_literal.specs.declared.parser.fault.LiteralFault.{LiteralFault}
-use Rattle.text_literal.specs.declared.parser.fault.LiteralFault.TheVariants as faults
+use Rattle.text_literal.specs.literal_grammar.Literal.{Literal, labelled, Plain, literal_kinds}
+use Rattle.types_parse.specs.grammar.LexemeKinds.{kinds_of}
+use Rattle.text_literal.specs.literal_grammar.LiteralNodes.{literal_nodes}
+use Rattle.text_literal.specs.declared.parser.literal_fault.LiteralFault.{LiteralFault}
+use Rattle.text_literal.specs.declared.parser.literal_fault.LiteralFault.TheVariants as faults
 use Rattle.text_literal.specs.declared.parser.block_stack.Opened.{Opened}
 use Rattle.text_literal.specs.declared.parser.literal_text.LiteralText.{LiteralText}
 use Rattle.text_literal.specs.declared.parser.part.PartStart.{PartStart}
@@ -23,15 +23,16 @@ use Rattle.text_literal.specs.declared.parser.part.MadeLiteral.{MadeLiteral}
 use Rattle.text_literal.specs.declared.parser.part.MadeLiteral.TheVariants as made
 use Rattle.text_literal.specs.parser.Starts as starts
 use Rattle.text_literal.specs.parser.Starts.{Start, mismatch, out_of_range, small, whole, start_at}
-use Rattle.text_literal.specs.parser.Reading.{Reading, Refusal, reading, is_next, with_label}
-use Rattle.text_literal.specs.parser.Reading.{literal_read}
+use Rattle.text_literal.specs.parser.LiteralReading.{LiteralReading, LiteralRefusal, reading}
+use Rattle.text_literal.specs.parser.LiteralReading.{is_next, with_label}
+use Rattle.text_literal.specs.parser.LiteralReading.{literal_read}
 use Rattle.text_literal.specs.parser.LiteralAnswers.{in_bytes, fault_of, shape_in, names_in}
 use Rattle.text_literal.specs.parser.LiteralAnswers.{IsAnswer}
 use Rattle.text_literal.specs.parser.Pending.{Open, open_at, finished}
 use Rattle.text_literal.specs.parser.NodesOf.{nodes_to_come}
 use Rattle.text_literal.specs.parser.Openings.{types_in}
 use Rattle.text_literal.specs.parser.Standing.{Stands, AreEncoded, inner_parts}
-use Rattle.text_literal.specs.parser.Ends.{AreEnds}
+use Rattle.text_literal.specs.parser.SubtreeEnds.{AreEnds}
 
 abbrev pub Popped : List Opened → List Opened → Option Opened → Type 0
 Popped old new None = (old ≡ []) × (new ≡ [])
@@ -60,19 +61,22 @@ pub record IsText (text : LiteralText) : Type 0 where
 -- ---- parts that have begun
 
 -- The reading gives no value, and the fault is the reading's refusal with its byte offset.
-pub record IsRefusedAs {A : Type 0} (lexemes : List Lexeme) (end : ℕ) (r : Result A (Refusal ℕ))
+pub record IsRefusedAs {A : Type 0} (lexemes : List Lexeme) (end : ℕ)
+    (r : Result A (LiteralRefusal ℕ))
     (fault : LiteralFault) : Type 0 where
-  pub refusal : Refusal ℕ
+  pub refusal : LiteralRefusal ℕ
   pub is : r ≡ Err refusal
   pub position : fault ≡ fault_of (in_bytes lexemes end refusal)
 
-abbrev pub MayRefuse : {A : Type 0} → List Lexeme → ℕ → Result A (Refusal ℕ) → LiteralFault → Type 0
+abbrev pub MayRefuse : {A : Type 0} → List Lexeme → ℕ → Result A (LiteralRefusal ℕ) → LiteralFault
+    → Type 0
 MayRefuse lexemes end r faults.Memory = ⊤
 MayRefuse lexemes end r fault = IsRefusedAs lexemes end r fault
 
 -- The reading is complete: it has one value, new objects after those of `graph`, and the labels
 -- `more`.
-pub record IsWhole (r : Result Reading (Refusal ℕ)) (graph new : List Obj) (more : List ℕ)
+pub record IsWhole (r : Result LiteralReading (LiteralRefusal ℕ)) (graph new : List Obj)
+    (more : List ℕ)
     (value : Val) : Type 0 where
   pub objects : List Obj
   pub read : r ≡ Ok (reading (value ∷ []) objects more)
@@ -188,7 +192,7 @@ AreOpen old graph all os rest = ⊥
 
 -- Finishing the open blocks with the nodes from j on gives the outcome.
 pub record IsUnderway (text : LiteralText) (old : List Obj)
-    (outcome : Result (List Obj) (Refusal ℕ))
+    (outcome : Result (List Obj) (LiteralRefusal ℕ))
     (stack : List Opened) (j : ℕ) (graph : List Obj) (labels : List ℕ) : Type 0 where
   pub parts : List PartList
   pub open_blocks : AreOpen old graph (kinds_of text.lexemes.now) stack parts
@@ -201,12 +205,12 @@ pub record IsUnderway (text : LiteralText) (old : List Obj)
 
 abbrev pub CanGoOn : LiteralText → List Opened → ℕ → List Obj → List ℕ → Type 0
 CanGoOn text stack j graph labels =
-    (old : List Obj) × (outcome : Result (List Obj) (Refusal ℕ))
+    (old : List Obj) × (outcome : Result (List Obj) (LiteralRefusal ℕ))
     × IsUnderway text old outcome stack j graph labels
 
 -- If the call succeeds, the outcome is the graph after the call. If the call fails, the fault is
 -- the outcome's refusal, or memory ran out.
-abbrev pub Finishes : LiteralText → List Obj → Result (List Obj) (Refusal ℕ) → List Obj
+abbrev pub Finishes : LiteralText → List Obj → Result (List Obj) (LiteralRefusal ℕ) → List Obj
     → Result ⊤ LiteralFault → Type 0
 Finishes text old outcome new (Ok done) = outcome ≡ Ok new
 Finishes text old outcome new (Err fault) =

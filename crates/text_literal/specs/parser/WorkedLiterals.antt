@@ -2,7 +2,7 @@
 -- readings at a type in an empty heap.
 use Rattle.std.specs.Prelude.{ℕ, ℤ, pos, negsuc, ◌≡◌, Bool, true, false, Option, Some, option_map}
 use Rattle.std.specs.Prelude.{Result, Ok, Err, List, [], ◌∷◌, map, codes}
-use Rattle.text_literal.specs.grammar.WorkedTrees.{symbol as mark, reading as tree_of}
+use Rattle.text_literal.specs.literal_grammar.WorkedTrees.{symbol as mark, reading as tree_of}
 use Rattle.base_data.specs.declared.model.value.Val.TheVariants.{Int, Atom, Ref}
 use Rattle.base_data.specs.declared.model.value.Obj.TheVariants.{Block, Bytes, Double, Doubles, I32}
 use Rattle.base_data.specs.declared.model.value.Obj.TheVariants.{I64}
@@ -20,10 +20,11 @@ use Rattle.types_spec.specs.declared.types.decl.Decl.{Decl}
 use Rattle.types_spec.specs.types.Ty.{Ty, variable, named, tuple, bracket, part, tag, tag_of}
 use Rattle.types_spec.specs.types.Shape.{shape}
 use Rattle.types_spec.specs.types.Names.{names_of}
-use Rattle.types_parse.specs.grammar.Lexemes.{kinds_of}
-use Rattle.text_literal.specs.parser.Reading.{Reading, Refusal, mismatch_at, int_range_at, label_at}
-use Rattle.text_literal.specs.parser.Reading.{reading}
-use Rattle.text_literal.specs.parser.Reading.{literal_read}
+use Rattle.types_parse.specs.grammar.LexemeKinds.{kinds_of}
+use Rattle.text_literal.specs.parser.LiteralReading.{LiteralReading, LiteralRefusal, mismatch_at}
+use Rattle.text_literal.specs.parser.LiteralReading.{int_range_at, label_at}
+use Rattle.text_literal.specs.parser.LiteralReading.{reading}
+use Rattle.text_literal.specs.parser.LiteralReading.{literal_read}
 use Rattle.text_literal.specs.parser.LiteralAnswers.{in_bytes}
 
 -- ---- types
@@ -92,17 +93,18 @@ lexemes_of all = map lexeme all
 
 -- ---- results
 
-abbrev pub placed : List Lexeme → Result Reading (Refusal Ty) → Result Reading (Refusal Ty)
+abbrev pub placed : List Lexeme → Result LiteralReading (LiteralRefusal Ty)
+    → Result LiteralReading (LiteralRefusal Ty)
 placed lexemes (Ok r) = Ok r
 placed lexemes (Err refusal) = Err (in_bytes lexemes 0 refusal)
 
-abbrev pub judged : List (ℕ × LexemeKind) → Ty → Option (Result Reading (Refusal Ty))
+abbrev pub judged : List (ℕ × LexemeKind) → Ty → Option (Result LiteralReading (LiteralRefusal Ty))
 judged lexemes t =
     option_map
     (λ v. placed (lexemes_of lexemes) (literal_read (shape decls) (names_of decls) 0 v 0 [] t))
     (tree_of (kinds_of (lexemes_of lexemes)))
 
-pub record Rows : Type 0 where
+pub record WorkedLiteralRows : Type 0 where
   -- `::(7, [])`
   pub one_item : judged
       ((0, mark symbols.DoubleColon) ∷ (2, mark symbols.OpenParen)

@@ -3,13 +3,14 @@
 ghost use Rattle.std.specs.Prelude.{ℕ, ◌≡◌, ◌+◌, ◌<◌, ◌≤◌, [], Some, Option, length, take, drop};
 ghost use Rattle.std.specs.Prelude.{slice_get, option_map, IfOk};
 ghost use Rattle.types_parse.specs.grammar.Grammar.{Name};
-ghost use Rattle.text_literal.specs.grammar.Literal.{Literal, labelled, Parts, Rows, array, fields};
-ghost use Rattle.types_parse.specs.grammar.Lexemes.{kinds_of};
+ghost use Rattle.text_literal.specs.literal_grammar.Literal.{Literal, labelled, Parts, FieldRows};
+ghost use Rattle.text_literal.specs.literal_grammar.Literal.{array, fields};
+ghost use Rattle.types_parse.specs.grammar.LexemeKinds.{kinds_of};
 ghost use Rattle.text_literal.specs.parser.Bits.{double_in, bits_of_node, bits_of_nodes};
 ghost use Rattle.text_literal.specs.parser.Standing.{Stands};
 ghost use Rattle.text_literal.specs.parser.Starts.{bits_of, and_bits, bits_of_parts, bits_of_rows};
 
-use crate::grammar::{LiteralNode, LiteralNodes, NodeForm};
+use crate::literal_grammar::{LiteralNode, LiteralNodes, NodeForm};
 use base_data::model::Memory;
 use std::alloc::Global;
 use types_lex::Lexemes;
@@ -84,7 +85,7 @@ pub(crate) fn doubles_of_parts(
         → Stands nodes.now lexemes.now at k (labelled l (array ps v))
         → IfOk result
         (λ all. option_map (λ bits. bits.items) all ≡ and_bits (bits_of_parts ps) (bits_of v)) }
-    ensures flat { (k : ℕ) (l : Option ℕ) (rs : Rows) (x : Name) (v : Literal)
+    ensures flat { (k : ℕ) (l : Option ℕ) (rs : FieldRows) (x : Name) (v : Literal)
         → Stands nodes.now lexemes.now at k (labelled l (fields None rs x v))
         → IfOk result
         (λ all. option_map (λ bits. bits.items) all ≡ and_bits (bits_of_rows rs) (bits_of v)) }

@@ -2,14 +2,15 @@
 
 ghost use Rattle.std.specs.Prelude.{ℕ, ◌≡◌, ◌<◌, ◌++◌, ◌∷◌, [], Option, length, map, IfOk};
 ghost use Rattle.types_parse.specs.grammar.Grammar.{Name};
-ghost use Rattle.text_literal.specs.grammar.Literal.{Head, Literal, labelled, Rows, fields};
-ghost use Rattle.types_parse.specs.grammar.Lexemes.{kinds_of};
-ghost use Rattle.text_literal.specs.parser.Ends.{AreEnds};
+ghost use Rattle.text_literal.specs.literal_grammar.Literal.{LiteralHead, Literal, labelled};
+ghost use Rattle.text_literal.specs.literal_grammar.Literal.{FieldRows, fields};
+ghost use Rattle.types_parse.specs.grammar.LexemeKinds.{kinds_of};
+ghost use Rattle.text_literal.specs.parser.SubtreeEnds.{AreEnds};
 ghost use Rattle.text_literal.specs.parser.FieldNames as specs;
 ghost use Rattle.text_literal.specs.parser.Standing.{Stands};
 ghost use Rattle.text_literal.specs.parser.Starts.{names_of_rows};
 
-use crate::grammar::LiteralNodes;
+use crate::literal_grammar::LiteralNodes;
 use crate::parser::siblings::sibling;
 use base_data::model::Memory;
 use std::alloc::Global;
@@ -61,7 +62,8 @@ pub(crate) fn field_names<'a>(
     requires at { at < length nodes.now }
     requires len { length ends.now ≡ length nodes.now }
     requires ends { AreEnds nodes.now ends.now }
-    ensures { (k : ℕ) (l : Option ℕ) (o : Option Head) (rs : Rows) (x : Name) (v : Literal)
+    ensures { (k : ℕ) (l : Option ℕ) (o : Option LiteralHead) (rs : FieldRows) (x : Name)
+        (v : Literal)
         → Stands nodes.now lexemes.now at k (labelled l (fields o rs x v))
         → IfOk result (λ names. map (λ name. name.now) names.items ≡ names_of_rows rs ++ x ∷ []) }
 {

@@ -3,13 +3,15 @@
 ghost use Rattle.std.specs.Prelude.{ℕ, ◌≡◌, length, Bool};
 ghost use Rattle.types_lex.specs.declared.lexeme.LexemeKind.TheVariants as kinds;
 ghost use Rattle.types_spec.specs.declared.types.names.Names.{Names};
-ghost use Rattle.text_literal.specs.grammar.Literal.{Plain, Head, constant, integer, character};
-ghost use Rattle.text_literal.specs.grammar.Literal.{string, double, truth, truth_name, unit};
-ghost use Rattle.text_literal.specs.grammar.Literal.{empty_array};
+ghost use Rattle.text_literal.specs.literal_grammar.Literal.{Plain, LiteralHead, constant, integer};
+ghost use Rattle.text_literal.specs.literal_grammar.Literal.{character};
+ghost use Rattle.text_literal.specs.literal_grammar.Literal.{string, double, truth, truth_name};
+ghost use Rattle.text_literal.specs.literal_grammar.Literal.{unit};
+ghost use Rattle.text_literal.specs.literal_grammar.Literal.{empty_array};
 ghost use Rattle.base_data.specs.declared.model.value.Val.TheVariants as vals;
 ghost use Rattle.base_data.specs.declared.model.value.Obj.TheVariants as objects;
 ghost use Rattle.text_literal.specs.parser.Starts.{start_at, if_in_range, is_in_bits, small, whole};
-ghost use Rattle.text_literal.specs.parser.Leaves.{leaf_in, below_of, lead_of, IsSound};
+ghost use Rattle.text_literal.specs.parser.LiteralLeaves.{leaf_in, below_of, lead_of, IsSound};
 ghost use Rattle.text_literal.specs.parser.Pending.{parts_of};
 ghost use Rattle.text_literal.specs.parser.Standing.{lead_of_plain};
 
@@ -154,7 +156,8 @@ fn empty_leaf(shape: &ShapeOf<usize>) -> Leaf<'static>
 fn word_leaf(shape: &ShapeOf<usize>, names: &Names, kind: &LexemeKind, word: &[u8]) -> Leaf<'static>
     ensures truth { (t : ℕ) (b : Bool) → word.now ≡ truth_name b
         → leaf_in result ≡ start_at t shape.now names.now (truth b) }
-    ensures constant { (t : ℕ) (h : Head) → kind.now ≡ kinds.Lower word.now → kind.now ≡ lead_of h
+    ensures constant { (t : ℕ) (h : LiteralHead) → kind.now ≡ kinds.Lower word.now
+        → kind.now ≡ lead_of h
         → leaf_in result ≡ start_at t shape.now names.now (constant h) }
     ensures sound { IsSound result }
 {

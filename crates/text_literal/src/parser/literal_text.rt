@@ -2,9 +2,9 @@
 
 ghost use Rattle.std.specs.Prelude.{◌≡◌, ◌+◌, ◌<◌, ◌^◌, length};
 ghost use Rattle.text_literal.specs.parser.LiteralAnswers.{byte_of as first_byte};
-ghost use Rattle.text_literal.specs.grammar.Literal.{label_kinds};
+ghost use Rattle.text_literal.specs.literal_grammar.Literal.{label_kinds};
 
-use crate::grammar::{LiteralNode, LiteralNodes};
+use crate::literal_grammar::{LiteralNode, LiteralNodes};
 use types_lex::Lexemes;
 use types_table::type_table::TypeTable;
 

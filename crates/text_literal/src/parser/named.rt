@@ -6,13 +6,13 @@ ghost use Rattle.std.specs.Prelude.{find, IsTrue};
 ghost use Rattle.base_data.specs.model.Graph.{IsInteger};
 ghost use Rattle.std.specs.Str.{bytes_eq};
 ghost use Rattle.types_spec.specs.declared.types.names.TagName.{TagName};
-ghost use Rattle.text_literal.specs.grammar.Literal.{Head, constant};
+ghost use Rattle.text_literal.specs.literal_grammar.Literal.{LiteralHead, constant};
 ghost use Rattle.text_literal.specs.parser.Starts.{start_at, is_in_bits, constructor_name};
 ghost use Rattle.text_literal.specs.parser.Starts.{name_of_tag};
 ghost use Rattle.text_literal.specs.parser.Starts.{constant_of_name, constant_start, tag_named};
 ghost use Rattle.text_literal.specs.parser.Starts.{if_tag};
 ghost use Rattle.text_literal.specs.parser.Starts.{bare_tag};
-ghost use Rattle.text_literal.specs.parser.Leaves.{leaf_in, lead_of, IsSound};
+ghost use Rattle.text_literal.specs.parser.LiteralLeaves.{leaf_in, lead_of, IsSound};
 
 use crate::parser::leaf::Leaf;
 use base_data::model::list::List;
@@ -20,13 +20,13 @@ use base_data::model::value::Val;
 use types_lex::lexeme::{LexemeKind, Symbol};
 use types_spec::types::names::{Names, TagName};
 use types_spec::types::shape::{PolyTag, ShapeOf};
-use types_table::fits::tag_of_hash;
+use types_table::leaf_fits::tag_of_hash;
 
 /// Returns the name of the constructor that the first lexeme of a literal names, or `None` if the
 /// lexeme names no constructor.
 #[inline(always)]
 pub(crate) fn name_of_constructor(kind: &LexemeKind) -> Option<&[u8]>
-    ensures { (h : Head) → kind.now ≡ lead_of h
+    ensures { (h : LiteralHead) → kind.now ≡ lead_of h
         → option_map (λ name. name.now) result ≡ constructor_name h }
 {
     match kind {
@@ -40,7 +40,7 @@ pub(crate) fn name_of_constructor(kind: &LexemeKind) -> Option<&[u8]>
 /// Returns the name of the polymorphic variant tag that the first lexeme of a literal names, or
 /// `None` if the lexeme names no tag.
 pub(crate) fn tag_name(kind: &LexemeKind) -> Option<&[u8]>
-    ensures { (h : Head) → kind.now ≡ lead_of h
+    ensures { (h : LiteralHead) → kind.now ≡ lead_of h
         → option_map (λ name. name.now) result ≡ name_of_tag h }
 {
     match kind {
@@ -63,7 +63,8 @@ fn index_of(all: &[List<u8>], name: &[u8]) -> Option<usize>
 #[inline(always)]
 fn position_of_constant(names: &Names, kind: &LexemeKind) -> Option<usize>
     ensures bounded { (i : ℕ) → result ≡ Some i → i < 2 ^ 62 }
-    ensures index { (h : Head) → kind.now ≡ lead_of h → result ≡ constant_of_name names.now h }
+    ensures index { (h : LiteralHead) → kind.now ≡ lead_of h
+        → result ≡ constant_of_name names.now h }
 {
     match name_of_constructor(kind) {
         Some(name) => index_of(names.constants.as_slice(), name),
@@ -98,7 +99,7 @@ pub(crate) fn tag_of<'a>(
     names: &Names,
     kind: &LexemeKind,
 ) -> Option<&'a PolyTag<usize>>
-    ensures { (h : Head) → kind.now ≡ lead_of h
+    ensures { (h : LiteralHead) → kind.now ≡ lead_of h
         → option_map (λ tag. tag.now) result ≡ tag_named tags.now names.now h }
 {
     let name = tag_name(kind)?;
@@ -132,7 +133,7 @@ pub(crate) fn is_integer(z: i64) -> bool
 #[inline(always)]
 pub fn constant_leaf(shape: &ShapeOf<usize>, names: &Names, kind: &LexemeKind) -> Leaf<'static>
     ensures sound { IsSound result }
-    ensures leaf { (t : ℕ) (h : Head) → kind.now ≡ lead_of h
+    ensures leaf { (t : ℕ) (h : LiteralHead) → kind.now ≡ lead_of h
         → leaf_in result ≡ start_at t shape.now names.now (constant h) }
 {
     match shape {

@@ -6,18 +6,19 @@ ghost use Rattle.std.specs.Prelude.{option_map, position};
 ghost use Rattle.types_spec.specs.declared.types.names.Names.{Names};
 ghost use Rattle.types_spec.specs.declared.types.shape.Constr.{Constr};
 ghost use Rattle.types_spec.specs.declared.types.shape.ShapeOf.TheVariants as shapes;
-ghost use Rattle.text_literal.specs.grammar.Literal.{Head, Literal, Parts, Rows, applied, fields};
-ghost use Rattle.text_literal.specs.grammar.Literal.{tuple, array};
-ghost use Rattle.text_literal.specs.grammar.Nodes.{count, rows_count};
+ghost use Rattle.text_literal.specs.literal_grammar.Literal.{LiteralHead, Literal, Parts};
+ghost use Rattle.text_literal.specs.literal_grammar.Literal.{FieldRows, applied, fields};
+ghost use Rattle.text_literal.specs.literal_grammar.Literal.{tuple, array};
+ghost use Rattle.text_literal.specs.literal_grammar.LiteralNodes.{count, rows_count};
 ghost use Rattle.text_literal.specs.parser.Starts.{start_at, is_constr, names_of_rows, tag_of_name};
 ghost use Rattle.text_literal.specs.parser.Starts.{carrying_start, if_tag, carrying_tag};
 ghost use Rattle.text_literal.specs.parser.Starts as starts;
-ghost use Rattle.text_literal.specs.parser.Leaves.{lead_of};
+ghost use Rattle.text_literal.specs.parser.LiteralLeaves.{lead_of};
 ghost use Rattle.types_parse.specs.grammar.Grammar.{Name};
 ghost use Rattle.text_literal.specs.parser.Openings.{opening_in, IsSound, IsNotFlat};
 
+use crate::parser::name_lists::same_names;
 use crate::parser::named::{is_integer, name_of_constructor, tag_of};
-use crate::parser::rows::same_names;
 use base_data::model::list::List;
 use types_lex::lexeme::LexemeKind;
 use types_spec::types::names::{ConstrNames, Names};
@@ -66,7 +67,7 @@ fn index_of(all: &[ConstrNames], name: &[u8]) -> Option<usize>
 /// has no inline record.
 #[inline(always)]
 fn plain_tag(names: &Names, kind: &LexemeKind) -> Option<usize>
-    ensures { (h : Head) → kind.now ≡ lead_of h → result ≡ tag_of_name names.now [] h }
+    ensures { (h : LiteralHead) → kind.now ≡ lead_of h → result ≡ tag_of_name names.now [] h }
 {
     match name_of_constructor(kind) {
         Some(name) => index_of(names.constructors.as_slice(), name),
@@ -146,7 +147,7 @@ pub fn applied_opening<'a>(
     parts: usize,
 ) -> Opening<'a>
     ensures sound { IsSound result }
-    ensures opening { (t : ℕ) (h : Head) (ps : Parts) (v : Literal) → kind.now ≡ lead_of h
+    ensures opening { (t : ℕ) (h : LiteralHead) (ps : Parts) (v : Literal) → kind.now ≡ lead_of h
         → parts ≡ suc (count ps)
         → opening_in t result ≡ start_at t shape.now names.now (applied h ps v) }
 {
@@ -177,7 +178,7 @@ fn inline_position(all: &[ConstrNames], name: &[u8], wanted: &[&[u8]]) -> Option
 /// Returns the tag of the constructor that the lexeme names, if the constructor has an inline
 /// record with the field names `wanted`.
 fn inline_tag(names: &Names, kind: &LexemeKind, wanted: &[&[u8]]) -> Option<usize>
-    ensures { (h : Head) → kind.now ≡ lead_of h
+    ensures { (h : LiteralHead) → kind.now ≡ lead_of h
         → result ≡ tag_of_name names.now (map (λ name. name.now) wanted.now) h }
 {
     match name_of_constructor(kind) {
@@ -196,7 +197,7 @@ pub fn inline_opening<'a>(
     parts: usize,
 ) -> Opening<'a>
     ensures sound { IsSound result }
-    ensures opening { (t : ℕ) (h : Head) (rs : Rows) (x : Name) (v : Literal)
+    ensures opening { (t : ℕ) (h : LiteralHead) (rs : FieldRows) (x : Name) (v : Literal)
         → kind.now ≡ lead_of h → parts ≡ suc (rows_count rs)
         → map (λ name. name.now) wanted.now ≡ names_of_rows rs ++ x ∷ []
         → opening_in t result ≡ start_at t shape.now names.now (fields (Some h) rs x v) }
@@ -221,7 +222,8 @@ pub fn record_opening<'a>(
 ) -> Opening<'a>
     requires { IsNotFlat shape.now }
     ensures sound { IsSound result }
-    ensures opening { (t : ℕ) (rs : Rows) (x : Name) (v : Literal) → parts ≡ suc (rows_count rs)
+    ensures opening { (t : ℕ) (rs : FieldRows) (x : Name) (v : Literal)
+        → parts ≡ suc (rows_count rs)
         → map (λ name. name.now) wanted.now ≡ names_of_rows rs ++ x ∷ []
         → opening_in t result ≡ start_at t shape.now names.now (fields None rs x v) }
 {

@@ -1,9 +1,9 @@
 //! Computes for each literal in a list of nodes where the literal ends.
 
 ghost use Rattle.std.specs.Prelude.{◌≡◌, length, IfOk};
-ghost use Rattle.text_literal.specs.parser.Ends as specs;
+ghost use Rattle.text_literal.specs.parser.SubtreeEnds as specs;
 
-use crate::grammar::LiteralNodes;
+use crate::literal_grammar::LiteralNodes;
 use base_data::model::Memory;
 use std::alloc::Global;
 

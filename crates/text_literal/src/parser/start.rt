@@ -4,11 +4,12 @@ ghost use Rattle.std.specs.Prelude.{ℕ, ◌≡◌, ◌<◌, ◌++◌, ◌∷◌
 ghost use Rattle.std.specs.Prelude.{suc, option_map, slice_get, IfOk, ◌&&◌, ◌==◌, ◌+◌};
 ghost use Rattle.types_spec.specs.declared.types.names.Names.{Names};
 ghost use Rattle.types_parse.specs.grammar.Grammar.{Name};
-ghost use Rattle.text_literal.specs.grammar.Literal.{Head, Literal, labelled, Plain, Parts, Rows};
-ghost use Rattle.text_literal.specs.grammar.Literal.{array, fields};
-ghost use Rattle.text_literal.specs.grammar.Nodes.{rows_count};
-ghost use Rattle.text_literal.specs.parser.Leaves as leaves;
-ghost use Rattle.text_literal.specs.parser.Leaves.{leaf_in};
+ghost use Rattle.text_literal.specs.literal_grammar.Literal.{LiteralHead, Literal, labelled, Plain};
+ghost use Rattle.text_literal.specs.literal_grammar.Literal.{Parts, FieldRows};
+ghost use Rattle.text_literal.specs.literal_grammar.Literal.{array, fields};
+ghost use Rattle.text_literal.specs.literal_grammar.LiteralNodes.{rows_count};
+ghost use Rattle.text_literal.specs.parser.LiteralLeaves as leaves;
+ghost use Rattle.text_literal.specs.parser.LiteralLeaves.{leaf_in};
 ghost use Rattle.text_literal.specs.parser.LiteralAnswers.{shape_in, names_in};
 ghost use Rattle.text_literal.specs.parser.Pending.{parts_of};
 ghost use Rattle.text_literal.specs.parser.Standing.{Stands, own_node, lead_of_owner};
@@ -20,15 +21,15 @@ ghost use Rattle.text_literal.specs.parser.Starts as starts;
 ghost use Rattle.text_literal.specs.parser.Started.{start_in, IsSound};
 ghost use Rattle.text_literal.specs.parser.Underway.{IsText};
 
-use crate::grammar::{LiteralNode, NodeForm};
+use crate::literal_grammar::{LiteralNode, NodeForm};
 use crate::parser::doubles::doubles_of_parts;
 use crate::parser::fields::field_names;
 use crate::parser::leaf::{Leaf, leaf_of};
 use crate::parser::literal_text::LiteralText;
+use crate::parser::name_lists::same_names;
 use crate::parser::opening::{
     Opening, applied_opening, array_opening, inline_opening, record_opening, tuple_opening,
 };
-use crate::parser::rows::same_names;
 use base_data::model::Memory;
 use std::alloc::Global;
 use types_lex::lexeme::{LexemeKind, Symbol};
@@ -51,7 +52,7 @@ fn doubles_at<'a>(alloc: Global, text: &LiteralText<'a>, j: usize) -> Result<Sta
         → Stands text.now.nodes.now text.now.lexemes.now j k (labelled l (array ps v))
         → IfOk result
         (λ start. start_in t start ≡ doubles_start (and_bits (bits_of_parts ps) (bits_of v))) }
-    ensures flat { (t k : ℕ) (l : Option ℕ) (rs : Rows) (x : Name) (v : Literal)
+    ensures flat { (t k : ℕ) (l : Option ℕ) (rs : FieldRows) (x : Name) (v : Literal)
         → Stands text.now.nodes.now text.now.lexemes.now j k (labelled l (fields None rs x v))
         → IfOk result
         (λ start. start_in t start ≡ doubles_start (and_bits (bits_of_rows rs) (bits_of v))) }
@@ -99,7 +100,7 @@ fn flat_start<'a>(
     fits: bool,
 ) -> Result<Start<'a>, Memory>
     requires { j < length text.now.nodes.now }
-    ensures fits { (t k : ℕ) (l : Option ℕ) (rs : Rows) (x : Name) (v : Literal)
+    ensures fits { (t k : ℕ) (l : Option ℕ) (rs : FieldRows) (x : Name) (v : Literal)
         → Stands text.now.nodes.now text.now.lexemes.now j k (labelled l (fields None rs x v))
         → IfOk result
         (λ start. start_in t start
@@ -124,7 +125,7 @@ fn record_start<'a>(
     parts: usize,
 ) -> Result<Start<'a>, Memory>
     requires { j < length text.now.nodes.now }
-    ensures start { (t k : ℕ) (l : Option ℕ) (rs : Rows) (x : Name) (v : Literal)
+    ensures start { (t k : ℕ) (l : Option ℕ) (rs : FieldRows) (x : Name) (v : Literal)
         → Stands text.now.nodes.now text.now.lexemes.now j k (labelled l (fields None rs x v))
         → parts ≡ suc (rows_count rs)
         → map (λ name. name.now) wanted.now ≡ names_of_rows rs ++ x ∷ []
@@ -154,7 +155,7 @@ fn fields_start<'a>(
 ) -> Result<Start<'a>, Memory>
     requires text { IsText text.now }
     requires node { j < length text.now.nodes.now }
-    ensures start { (t k : ℕ) (l : Option ℕ) (o : Option Head) (rs : Rows) (x : Name)
+    ensures start { (t k : ℕ) (l : Option ℕ) (o : Option LiteralHead) (rs : FieldRows) (x : Name)
         (v : Literal)
         → Stands text.now.nodes.now text.now.lexemes.now j k (labelled l (fields o rs x v))
         → kind.now ≡ lead_of_owner o → parts ≡ suc (rows_count rs)

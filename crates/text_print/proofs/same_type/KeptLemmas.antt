@@ -11,7 +11,7 @@ use Rattle.base_data.specs.declared.model.value.Obj.{Obj}
 use Rattle.base_data.specs.declared.model.value.Obj.TheVariants as objects
 use Rattle.base_data.proofs.model.Lists.{AllZip-length}
 use Rattle.marshal_spec.specs.format.Isomorphism.{Agree, AgreeObjects, IsPairing, Isomorphism}
-use Rattle.marshal_spec.proofs.canonical.ListLemmas.{Contains-cond, cond-Contains, AllZip-at}
+use Rattle.marshal_spec.proofs.canonical.CanonicalListLemmas.{Contains-cond, cond-Contains, AllZip-at}
 use Rattle.marshal_spec.proofs.canonical.IsomorphismLemmas.{objects_of_pair, same_symmetric}
 use Rattle.types_spec.specs.declared.types.shape.PolyTag.{PolyTag}
 use Rattle.types_spec.specs.declared.types.shape.ShapeOf.{ShapeOf}
@@ -23,7 +23,7 @@ use Rattle.types_spec.specs.declared.types.fault.Fault.TheVariants.{Mismatch, Co
 use Rattle.types_spec.specs.types.LeastFault.{IsLeastFault}
 use Rattle.types_spec.specs.types.Fault.{type_of_field, step, value_at, IsMismatch, IsConflict, IsFault}
 use Rattle.types_spec.specs.types.Typing.{values_of, field_at, IsListed, IsHeld, IsTyping, IsTyped, HasType}
-use Rattle.types_spec.proofs.types.FaultLemmas.{paired}
+use Rattle.types_spec.proofs.types.TypeFaultLemmas.{paired}
 
 -- ---- representations and paired values
 

@@ -14,8 +14,8 @@ use Rattle.types_spec.specs.declared.types.shape.ShapeOf.{ShapeOf}
 use Rattle.types_spec.specs.types.Fitting.{fields_of, or_none, is_asked}
 use Rattle.types_spec.specs.types.Fault.{field_of}
 use Rattle.text_print.specs.leaves.Frames.{Frame, frame_of, before_part, wildcard_text}
-use Rattle.text_print.specs.show.Chunks.{Text, First, Again, has}
-use Rattle.text_print.specs.show.Shown.{Met, met, led_by, parts_from, object_met, met_within, asked_met}
+use Rattle.text_print.specs.show.TextChunks.{Text, First, Again, has}
+use Rattle.text_print.specs.show.ShownValues.{Met, met, led_by, parts_from, object_met, met_within, asked_met}
 
 -- ---- objects not yet visited
 

@@ -39,7 +39,7 @@ use Rattle.types_spec.specs.types.Head.{head}
 use Rattle.types_spec.specs.types.Names.{no_names, field_names, constant_name, carrying_names, constr_names, tag_name, body_names, declared_body_names, predeclared_type_names, head_names, names_of, plain_constr, sum_names}
 use Rattle.types_spec.specs.types.Shape.{is_flat, is_constant, constants_in, types_of_fields, block_of, blocks_in, array_of, predeclared_shape, record_shape, body_shape, datatype_shape, tag_shape, head_shape, shape}
 use Rattle.text_print.specs.leaves.Frames.{is_hash, tag_of_values}
-use Rattle.text_print.specs.show.Named.{HasTag, AreForFields, HasIntName, HasBlockNames, HasDoublesNames, HasObjectNames, HasItsNames}
+use Rattle.text_print.specs.show.NamedFields.{HasTag, AreForFields, HasIntName, HasBlockNames, HasDoublesNames, HasObjectNames, HasItsNames}
 
 -- ---- the names of a representation
 

@@ -14,9 +14,9 @@ use Rattle.types_spec.specs.declared.types.names.Names.{Names}
 use Rattle.types_spec.specs.declared.types.shape.ShapeOf.{ShapeOf}
 use Rattle.types_spec.specs.declared.types.shape.ShapeOf.TheVariants as shapes
 use Rattle.types_spec.specs.types.Fitting.{is_number}
-use Rattle.text_print.specs.leaves.Leaves.{string_text, float_text, below_text, int32_text}
-use Rattle.text_print.specs.leaves.Leaves.{int64_text}
-use Rattle.text_print.specs.leaves.Leaves.{native_text}
+use Rattle.text_print.specs.leaves.LeafTexts.{string_text, float_text, below_text, int32_text}
+use Rattle.text_print.specs.leaves.LeafTexts.{int64_text}
+use Rattle.text_print.specs.leaves.LeafTexts.{native_text}
 
 -- ---- lists of parts
 

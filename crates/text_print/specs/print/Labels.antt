@@ -3,8 +3,8 @@ use Rattle.std.specs.Prelude.{ℕ, ◌<◌, ◌≤◌, ◌-◌, ◌≡◌, ◌||
 use Rattle.std.specs.Prelude.{length, slice_index_or, slice_set}
 use Rattle.base_data.specs.declared.model.value.Obj.{Obj}
 use Rattle.types_table.specs.declared.type_table.tabled.Tabled.{Tabled}
-use Rattle.text_print.specs.show.Chunks.{Chunk, has, firsts, agains, number_in}
-use Rattle.text_print.specs.print.Walking.{IsWalk, chunks_left}
+use Rattle.text_print.specs.show.TextChunks.{TextChunk, has, firsts, agains, number_in}
+use Rattle.text_print.specs.print.PrintWalk.{IsWalk, chunks_left}
 use Rattle.text_print.specs.declared.print.print_walk.PrintStep.{PrintStep}
 use Rattle.text_print.specs.declared.print.print_walk.PrintStep.TheVariants as steps
 use Rattle.text_print.specs.declared.print.labels.Labels.{Labels}
@@ -41,7 +41,7 @@ IsMarkable n step = Unit {0}
 
 -- The marks and visits up to now, together with the marks and visits of the remaining chunks, are
 -- those of all chunks.
-pub record AreCounted (table : Tabled) (graph : List Obj) (all : List Chunk) (walk : PrintWalk)
+pub record AreCounted (table : Tabled) (graph : List Obj) (all : List TextChunk) (walk : PrintWalk)
     (again : List Bool) : Type 0 where
   pub is_walk : IsWalk table graph walk
   pub many : length again ≡ length graph

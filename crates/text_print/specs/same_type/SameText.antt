@@ -9,7 +9,7 @@ use Rattle.types_spec.specs.declared.types.shape.ShapeOf.{ShapeOf}
 use Rattle.types_spec.specs.types.Names.{names_of}
 use Rattle.types_spec.specs.types.Shape.{shape}
 use Rattle.types_spec.specs.types.Ty.{Ty}
-use Rattle.text_print.specs.show.Shown.{shown_text}
+use Rattle.text_print.specs.show.ShownValues.{shown_text}
 
 -- Isomorphic values have the same text at a type over declarations.
 abbrev pub DeclaredTextsAreKept : Type 0

@@ -4,7 +4,7 @@ use Rattle.std.specs.Prelude.{ℕ, ◌+◌, ◌≡◌, List, [], length, Some, s
 use Rattle.base_data.specs.declared.model.value.Val.{Val}
 use Rattle.base_data.specs.declared.model.value.Obj.{Obj}
 use Rattle.types_spec.specs.declared.types.decl.Decl.{Decl}
-use Rattle.types_spec.specs.types.Accepted.{AreWellFormed, IsSoundType}
+use Rattle.types_spec.specs.types.WellFormed.{AreWellFormed, IsSoundType}
 use Rattle.types_spec.specs.types.Equal.{Equal, declared_shapes}
 use Rattle.types_spec.specs.types.Fault.{value_at}
 use Rattle.types_spec.specs.types.Fitting.{fields_of}
@@ -15,9 +15,9 @@ use Rattle.types_spec.specs.types.Ty.{Ty}
 use Rattle.types_spec.specs.types.Typing.{HasType}
 use Rattle.types_table.specs.declared.type_table.tabled.Tabled.{Tabled}
 use Rattle.types_table.specs.type_table.Made.{types_of, IsTypeTable}
-use Rattle.text_print.specs.show.Named.{HasItsNames}
-use Rattle.text_print.specs.show.Shown.{met_within, shown_text, shown_at}
-use Rattle.text_print.specs.show.Tables.{shape_in, names_in}
+use Rattle.text_print.specs.show.NamedFields.{HasItsNames}
+use Rattle.text_print.specs.show.ShownValues.{met_within, shown_text, shown_at}
+use Rattle.text_print.specs.show.TableShapes.{shape_in, names_in}
 
 -- The numbers `i` and `j` are in one class of equal types.
 abbrev pub SameClass : Tabled → ℕ → ℕ → Type 0

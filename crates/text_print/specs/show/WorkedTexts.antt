@@ -13,8 +13,8 @@ use Rattle.types_spec.specs.declared.types.decl.Decl.{Decl}
 use Rattle.types_spec.specs.types.Ty.{Ty, named, tuple, bracket, part, tag, tag_of}
 use Rattle.types_spec.specs.types.Shape.{shape}
 use Rattle.types_spec.specs.types.Names.{names_of}
-use Rattle.text_print.specs.show.Shown.{shown_text, shown_at}
-use Rattle.text_print.specs.show.Dumped.{dump_text}
+use Rattle.text_print.specs.show.ShownValues.{shown_text, shown_at}
+use Rattle.text_print.specs.show.DumpedGraph.{dump_text}
 
 abbrev pub one : List ℕ → Ty → Ty
 one name t = part (named name) t
@@ -71,7 +71,7 @@ gets graph v t path = shown_at (shape decls) (names_of decls) graph ◌≡◌ v 
 abbrev pub numbers : List Obj
 numbers = Block 0 (Int (pos 1) ∷ Ref 1 ∷ []) ∷ Block 0 (Int (pos 2) ∷ Int (pos 0) ∷ []) ∷ []
 
-pub record Rows : Type 0 where
+pub record WorkedTextRows : Type 0 where
   pub cyclic : shows (Block 0 (Int (pos 1) ∷ Ref 0 ∷ []) ∷ []) (Ref 0) (one (codes "list") int)
       ≡ codes "#0=::(1, #0)"
   pub shared : shows (Block 0 (Ref 1 ∷ Ref 1 ∷ []) ∷ Block 0 (Int (pos 0) ∷ []) ∷ []) (Ref 0)

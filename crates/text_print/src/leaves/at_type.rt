@@ -4,18 +4,18 @@
 ghost use Rattle.std.specs.Prelude.{◌≡◌, ◌<◌, ◌++◌, map, IsTrue, OnOk, unwrap_or, slice_get, []};
 ghost use Rattle.types_spec.specs.types.Fitting.{fits_int, is_below};
 ghost use Rattle.marshal_heap.specs.heap.Heap.{custom_object, IsReferenceWord, ForNamed};
-ghost use Rattle.text_print.specs.leaves.Leaves.{below_text};
+ghost use Rattle.text_print.specs.leaves.LeafTexts.{below_text};
 ghost use Rattle.text_print.specs.leaves.Frames.{int_text, double_text, object_text, natural};
 ghost use Rattle.text_print.specs.leaves.Frames.{tag_text};
 ghost use Rattle.text_print.specs.leaves.Frames.{row_from, row_text};
 ghost use Rattle.text_print.specs.leaves.FrameView.{frame_in};
 
-use crate::leaves::bytes::write_name;
 use crate::leaves::frame::{Frame, doubles_frame_of, name_of_tag};
-use crate::leaves::leaves::{
+use crate::leaves::number_text::{
     write_below, write_float, write_int, write_int32, write_int64, write_native,
 };
-use crate::leaves::strings::write_string_of;
+use crate::leaves::string_text::write_string_of;
+use crate::leaves::text_bytes::write_name;
 use base_data::model::Memory;
 use base_data::model::code::Custom;
 use base_data::model::list::List;

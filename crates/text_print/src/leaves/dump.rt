@@ -3,12 +3,12 @@
 ghost use Rattle.std.specs.Prelude.{◌≡◌, ◌++◌, length, OnOk};
 ghost use Rattle.std.specs.List.{flat_map};
 ghost use Rattle.marshal_heap.specs.heap.Heap.{object_at, fields_of, doubles_of, IsOfKind};
-ghost use Rattle.text_print.specs.leaves.Dumped.{value_text, spaced_value, spaced_float};
-ghost use Rattle.text_print.specs.leaves.Dumped.{custom_text};
-ghost use Rattle.text_print.specs.leaves.Dumped.{text_of_kind, root_line, object_line};
+ghost use Rattle.text_print.specs.leaves.DumpedObjects.{value_text, spaced_value, spaced_float};
+ghost use Rattle.text_print.specs.leaves.DumpedObjects.{custom_text};
+ghost use Rattle.text_print.specs.leaves.DumpedObjects.{text_of_kind, root_line, object_line};
 
-use crate::leaves::leaves::{write_float, write_int};
-use crate::leaves::strings::write_string_of;
+use crate::leaves::number_text::{write_float, write_int};
+use crate::leaves::string_text::write_string_of;
 use base_data::model::Memory;
 use base_data::model::code::Custom;
 use base_data::model::value::Val;
@@ -25,7 +25,7 @@ pub fn write_root_line(text: &mut Vec<u8>, root: Val) -> Result<(), Memory>
 }
 
 /// Appends the line of an object.
-#[tactic(auto, using(crate::proofs::leaves::DumpLemmas::text_by_kind))]
+#[tactic(auto, using(crate::proofs::leaves::LeafDumpLemmas::text_by_kind))]
 pub fn write_object_line(text: &mut Vec<u8>, placed: &NumberedObject<'_>) -> Result<(), Memory>
     ensures { OnOk result
         (text.new.items

@@ -3,9 +3,9 @@
 ghost use Rattle.std.specs.Prelude.{◌≡◌, ◌≤◌, ◌∷◌, [], ◌++◌, take, OnOk};
 ghost use Rattle.std.specs.Bool.{OnTrue};
 ghost use Rattle.std.specs.List.{flat_map};
-ghost use Rattle.text_print.specs.leaves.Leaves.{letter_of, escaped, char_text, string_text};
+ghost use Rattle.text_print.specs.leaves.LeafTexts.{letter_of, escaped, char_text, string_text};
 
-use crate::leaves::bytes::write_reserved;
+use crate::leaves::text_bytes::write_reserved;
 use base_data::model::Memory;
 use base_data::text::write;
 

@@ -10,7 +10,7 @@ ghost use Rattle.text_print.specs.leaves.Frames.{constr_frame};
 ghost use Rattle.text_print.specs.leaves.Frames.{is_hash, before_part, tag_of_values};
 ghost use Rattle.text_print.specs.leaves.FrameView.{frame_in};
 
-use crate::leaves::bytes::{write_few, write_name_reserved, write_reserved};
+use crate::leaves::text_bytes::{write_few, write_name_reserved, write_reserved};
 use base_data::model::Memory;
 use base_data::model::list::List;
 use base_data::model::value::Val;
@@ -55,7 +55,7 @@ impl<'a> Frame<'a> {
 
     /// Appends the text before part `i`: the separator and the label of part `i`.
     #[inline(always)]
-    #[tactic(auto, using(crate::proofs::leaves::FrameLemmas::before_is))]
+    #[tactic(auto, using(crate::proofs::leaves::LeafFrameLemmas::before_is))]
     pub fn write_before(&self, text: &mut Vec<u8>, i: u64) -> Result<(), Memory>
         ensures { OnOk result
             (text.new.items ≡ text.old.items ++ before_part (frame_in self.now) i) }
@@ -123,7 +123,7 @@ fn write_between(text: &mut Vec<u8>, between: &[u8], i: u64) -> Result<(), Memor
 
 /// Appends the text before field `i`, given the names of the fields.
 #[inline(always)]
-#[tactic(auto, using(crate::proofs::leaves::FrameLemmas::before_is))]
+#[tactic(auto, using(crate::proofs::leaves::LeafFrameLemmas::before_is))]
 fn write_before_field(text: &mut Vec<u8>, fields: &[List<u8>], i: u64) -> Result<(), Memory>
     ensures { (name : List ℕ)
         → OnOk result

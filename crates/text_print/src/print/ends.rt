@@ -4,7 +4,7 @@
 ghost use Rattle.std.specs.Prelude.{ℕ, List as Seq, ◌≡◌, ◌++◌, OnOk};
 ghost use Rattle.text_print.specs.leaves.Frames.{named_frame};
 ghost use Rattle.text_print.specs.leaves.FrameView.{frame_in};
-ghost use Rattle.text_print.specs.print.Levels.{end_text};
+ghost use Rattle.text_print.specs.print.PrintLevels.{end_text};
 
 use crate::leaves::{Frame, write_few};
 use base_data::model::Memory;

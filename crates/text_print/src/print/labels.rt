@@ -2,7 +2,7 @@
 
 ghost use Rattle.std.specs.Prelude.{◌≡◌, ◌<◌, ◌++◌, length, true, false, All, IfOk, OnOk, filter};
 ghost use Rattle.std.specs.Prelude.{slice_index_or, decimal, vec_len, codes};
-ghost use Rattle.text_print.specs.show.Chunks.{First, Again, chunk_text, number_in};
+ghost use Rattle.text_print.specs.show.TextChunks.{First, Again, chunk_text, number_in};
 ghost use Rattle.text_print.specs.print.Labels.{AreNumbers, AreLabels, IsBetween, IsMarkable};
 ghost use Rattle.text_print.specs.print.Labels.{marks_after};
 

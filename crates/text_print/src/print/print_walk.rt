@@ -12,15 +12,16 @@ ghost use Rattle.marshal_heap.specs.heap.Heap.{object_at, fields_of, word_of, Is
 ghost use Rattle.check_heap.specs.fits.Needs.{needs_in};
 ghost use Rattle.text_print.specs.leaves.Frames.{frame_of};
 ghost use Rattle.text_print.specs.leaves.FrameView.{frame_in};
-ghost use Rattle.text_print.specs.show.Tables.{shape_in, names_in};
+ghost use Rattle.text_print.specs.show.TableShapes.{shape_in, names_in};
 ghost use Rattle.types_table.specs.type_table.Made.{table_of};
-ghost use Rattle.text_print.specs.print.Levels.{levels_of, last_outside, IsPassed};
+ghost use Rattle.text_print.specs.print.PrintLevels.{levels_of, last_outside, IsPassed};
 ghost use Rattle.text_print.specs.print.Typed.{IsTypedAt};
-ghost use Rattle.text_print.specs.print.Walking.{left_of, chunks_left, IsOpen, IsWalk, Goes, Gives};
+ghost use Rattle.text_print.specs.print.PrintWalk.{left_of, chunks_left, IsOpen, IsWalk, Goes};
+ghost use Rattle.text_print.specs.print.PrintWalk.{Gives};
 
 use crate::leaves::{Frame, block_frame};
-use crate::print::block::OpenBlock;
 use crate::print::ends::end_of;
+use crate::print::open_block::OpenBlock;
 use crate::print::visit_order::VisitOrder;
 use base_data::model::Memory;
 use base_data::model::value::Val;

@@ -19,7 +19,7 @@ pub struct VisitOrder {
 
 impl Model for VisitOrder {
     ghost use Rattle.std.specs.Prelude.{List, ℕ, ◌++◌, ◌-◌, ◌≤◌};
-    ghost use Rattle.text_print.specs.print.Row.{row};
+    ghost use Rattle.text_print.specs.print.PrintRow.{row};
 
     ghost Value = { List ℕ };
 

@@ -9,7 +9,7 @@ use Rattle.std.specs.List.{flat_map, AllByRecursion}
 use Rattle.base_data.specs.model.Bytes.{AreBytes}
 use Rattle.types_lex.specs.declared.lexeme.LexemeKind.TheVariants as kinds
 use Rattle.types_lex.specs.Lexeme.{CharForm, Plain, Named, Decimal, char_bytes, char_value, named_char, value_of_digit, IsCharForm}
-use Rattle.text_print.specs.leaves.Leaves.{escaped, char_text, string_text}
+use Rattle.text_print.specs.leaves.LeafTexts.{escaped, char_text, string_text}
 use Rattle.text_roundtrip.specs.lexed.Lexed.{IsLexed}
 use Rattle.text_roundtrip.proofs.lexed.LexedLemmas.{lexed_at, lexed_quoted, lexed_character}
 

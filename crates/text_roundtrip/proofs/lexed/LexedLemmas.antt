@@ -9,27 +9,27 @@ use Rattle.types_lex.specs.declared.lexeme.LexemeKind.TheVariants as kinds
 use Rattle.types_lex.specs.declared.lexeme.Symbol.{Symbol}
 use Rattle.types_lex.specs.declared.lexeme.Symbol.TheVariants as symbols
 use Rattle.types_lex.specs.declared.lexeme.Suffix.{Suffix}
-use Rattle.types_lex.specs.Lexeme.{CharForm, Form, Lower, Upper, Tag, Character, Number, Quoted, Double, Mark, form_bytes, form_kind, IsForm, IsInRange}
-use Rattle.types_lex.specs.LexText.{Part, Separator, Comment, Word, part_bytes, IsPart, AreParts, lexemes_of, Lexes}
-use Rattle.types_lex.specs.Scan.{pair_symbol, pair_at, single_symbol, symbol_form, form_at}
+use Rattle.types_lex.specs.Lexeme.{CharForm, LexemeForm, Lower, Upper, Tag, Character, Number, Quoted, Double, Mark, form_bytes, form_kind, IsForm, IsInRange}
+use Rattle.types_lex.specs.LexText.{TextPart, Separator, Comment, Word, part_bytes, IsPart, AreParts, lexemes_of, Lexes}
+use Rattle.types_lex.specs.Lexer.{pair_symbol, pair_at, single_symbol, symbol_form, form_at}
 use Rattle.types_parse.specs.grammar.Grammar.{Kinds, mark}
-use Rattle.text_roundtrip.specs.lexed.Lexed.{Ends, NoStar, Begins, kinds_in, IsOnLine, IsLexed}
-use Rattle.text_roundtrip.proofs.lexed.TakenLemmas.{found_part, paren_part, lower_found, upper_found, tag_found, number_found, double_found, quoted_found, character_found}
+use Rattle.text_roundtrip.specs.lexed.Lexed.{Ends, NoStar, BeginsWithoutStar, kinds_in, IsOnLine, IsLexed}
+use Rattle.text_roundtrip.proofs.lexed.LexedTakenLemmas.{found_part, paren_part, lower_found, upper_found, tag_found, number_found, double_found, quoted_found, character_found}
 
 -- ---- concatenation
 
-are_both : (ps qs : List Part) (after : List ℕ) → AreParts ps (flat_map part_bytes qs ++ after) → AreParts qs after → AreParts (ps ++ qs) after
+are_both : (ps qs : List TextPart) (after : List ℕ) → AreParts ps (flat_map part_bytes qs ++ after) → AreParts qs after → AreParts (ps ++ qs) after
 are_both [] qs after are more = more
 are_both (p ∷ ps) qs after are more =
     (subst (IsPart p) (sym (append_assoc (flat_map part_bytes ps) (flat_map part_bytes qs) after) ∙ ap (λ t. t ++ after) (sym (flat_map-append part_bytes ps qs))) are.0, are_both ps qs after are.1 more)
 
-kinds_both : (ps qs : List Part) → kinds_in ps ++ kinds_in qs ≡ kinds_in (ps ++ qs)
+kinds_both : (ps qs : List TextPart) → kinds_in ps ++ kinds_in qs ≡ kinds_in (ps ++ qs)
 kinds_both [] qs = refl
 kinds_both (Separator b ∷ ps) qs = kinds_both ps qs
 kinds_both (Comment inside ∷ ps) qs = kinds_both ps qs
 kinds_both (Word form ∷ ps) qs = ap (λ t. form_kind form ∷ t) (kinds_both ps qs)
 
-all_both : (ps qs : List Part) → AllByRecursion IsOnLine ps → AllByRecursion IsOnLine qs → AllByRecursion IsOnLine (ps ++ qs)
+all_both : (ps qs : List TextPart) → AllByRecursion IsOnLine ps → AllByRecursion IsOnLine qs → AllByRecursion IsOnLine (ps ++ qs)
 all_both [] qs one other = other
 all_both (p ∷ ps) qs one other = (one.0, all_both ps qs one.1 other)
 
@@ -52,7 +52,7 @@ lexed_at e f one = record {
   one_line = one.one_line;
 }
 
-pub begins_with : (b : ℕ) (bs : List ℕ) → b ≢ 42 → Begins (b ∷ bs)
+pub begins_with : (b : ℕ) (bs : List ℕ) → b ≢ 42 → BeginsWithoutStar (b ∷ bs)
 begins_with b bs other = record { first = b; others = bs; is = refl; no_star = other }
 
 -- The empty text has no lexemes, whatever bytes follow.
@@ -63,7 +63,7 @@ pub lexed_space : (May : List ℕ → Type 0) → IsLexed May (32 ∷ []) []
 lexed_space May = record { parts = Separator 32 ∷ []; written = refl; stands = refl; are = λ after may. (refl, tt); one_line = (refl, tt) }
 
 -- If a lexeme is found before all allowed bytes, then the lexeme's text is lexed as the lexeme.
-pub lexed_form : (May : List ℕ → Type 0) (form : Form) → IsForm form → ((after : List ℕ) → May after → IsPart (Word form) after) → IsLexed May (form_bytes form) (form_kind form ∷ [])
+pub lexed_form : (May : List ℕ → Type 0) (form : LexemeForm) → IsForm form → ((after : List ℕ) → May after → IsPart (Word form) after) → IsLexed May (form_bytes form) (form_kind form ∷ [])
 lexed_form May form own is = record { parts = Word form ∷ []; written = sym (append-nil (form_bytes form)); stands = refl; are = λ after may. (is after may, tt); one_line = (own, tt) }
 
 -- ---- words, numbers, strings
@@ -159,7 +159,7 @@ module _ (May : List ℕ → Type 0) where
 
 -- ---- whole texts
 
-pub kinds_lexemes : (parts : List Part) (position : ℕ) → map (λ (l : Lexeme). l.kind) (lexemes_of position parts) ≡ kinds_in parts
+pub kinds_lexemes : (parts : List TextPart) (position : ℕ) → map (λ (l : Lexeme). l.kind) (lexemes_of position parts) ≡ kinds_in parts
 kinds_lexemes [] position = refl
 kinds_lexemes (Separator b ∷ parts) position = kinds_lexemes parts _
 kinds_lexemes (Comment inside ∷ parts) position = kinds_lexemes parts _

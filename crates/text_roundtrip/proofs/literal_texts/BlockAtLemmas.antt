@@ -17,10 +17,10 @@ use Rattle.types_spec.specs.declared.types.shape.ShapeOf.{ShapeOf}
 use Rattle.types_spec.specs.declared.types.shape.ShapeOf.TheVariants as shapes
 use Rattle.types_spec.specs.types.Fitting.{is_number, tag_with, numbered_from, fields_if, constr_fields, argument_field, tag_fields, block_fields}
 use Rattle.types_parse.specs.grammar.Grammar.{Name}
-use Rattle.text_literal.specs.grammar.Literal.{tag_head, Literal, applied, fields, Parts, no_parts, Rows}
-use Rattle.text_literal.specs.grammar.Nodes.{count, rows_count}
+use Rattle.text_literal.specs.literal_grammar.Literal.{tag_head, Literal, applied, fields, Parts, no_parts, FieldRows}
+use Rattle.text_literal.specs.literal_grammar.LiteralNodes.{count, rows_count}
 use Rattle.text_print.specs.leaves.Frames.{is_hash, tag_of_values, listed, fields_frame, named_frame, array_frame, constr_frame, frame_of, row_from}
-use Rattle.text_print.specs.show.Named.{AreForFields, HasTag, HasBlockNames}
+use Rattle.text_print.specs.show.NamedFields.{AreForFields, HasTag, HasBlockNames}
 use Rattle.text_literal.specs.parser.Starts.{block, start_at, type_in, carrying_start, is_constr, names_of_rows, carrying_tag, if_tag}
 use Rattle.text_roundtrip.specs.lexed.Lexed.{Ends}
 use Rattle.text_roundtrip.proofs.lexed.LexedLemmas.{lexed_tag, lexed_nothing, begins_with}
@@ -69,7 +69,7 @@ module _ {T : Type 0} (shape : T → ShapeOf T) (names : T → Names) (t : T) wh
         let one : position (is_constr cn.name []) nm.constructors ≡ Some tag = subst (λ fs. position (is_constr cn.name fs) nm.constructors ≡ Some tag) none own.one in
         rw (own.is_head.named, one) (fits_is (suc (count ps)) e)
 
-    inline_is : (fs : List Name) → cn.fields ≡ fs → (rs : Rows) (x : Name) (u : Literal) → names_of_rows rs ++ x ∷ [] ≡ fs → suc (rows_count rs) ≡ length constr.fields
+    inline_is : (fs : List Name) → cn.fields ≡ fs → (rs : FieldRows) (x : Name) (u : Literal) → names_of_rows rs ++ x ∷ [] ≡ fs → suc (rows_count rs) ≡ length constr.fields
         → start_at t (shapes.Sum constants blocks) nm (fields (Some own.is_head.head) rs x u) ≡ block tag [] (type_in constr.fields t)
     inline_is fs is rs x u named e =
         let one : position (is_constr cn.name fs) nm.constructors ≡ Some tag = subst (λ fs. position (is_constr cn.name fs) nm.constructors ≡ Some tag) is own.one in

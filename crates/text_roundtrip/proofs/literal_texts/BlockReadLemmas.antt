@@ -8,17 +8,17 @@ use Rattle.types_spec.specs.declared.types.names.Names.{Names}
 use Rattle.types_spec.specs.declared.types.shape.ShapeOf.{ShapeOf}
 use Rattle.marshal_spec.specs.format.Tree.{Forest, none, more, AreTrees, roots, all_made, all_objects}
 use Rattle.types_parse.specs.grammar.Grammar.{Name, mark}
-use Rattle.text_literal.specs.grammar.Literal.{Head, head_kinds, owner_kinds, Literal, applied, fields, tuple, array, Parts, no_parts, more_parts, Rows, no_rows, plain_kinds, literal_kinds, parts_kinds, rows_kinds, row_start}
-use Rattle.text_literal.specs.grammar.Nodes.{count, rows_count}
+use Rattle.text_literal.specs.literal_grammar.Literal.{LiteralHead, head_kinds, owner_kinds, Literal, applied, fields, tuple, array, Parts, no_parts, more_parts, FieldRows, no_rows, plain_kinds, literal_kinds, parts_kinds, rows_kinds, row_start}
+use Rattle.text_literal.specs.literal_grammar.LiteralNodes.{count, rows_count}
 use Rattle.text_print.specs.leaves.Frames.{listed, fields_frame, array_frame, row_from}
-use Rattle.text_literal.specs.parser.Reading.{reading, and_next, literal_read, parts_read, rows_read}
+use Rattle.text_literal.specs.parser.LiteralReading.{reading, and_next, literal_read, parts_read, rows_read}
 use Rattle.text_literal.specs.parser.Starts.{block, start_at, type_in, names_of_rows}
-use Rattle.text_roundtrip.specs.lexed.Lexed.{Ends, NoStar, IsLexed, Begins}
+use Rattle.text_roundtrip.specs.lexed.Lexed.{Ends, NoStar, IsLexed, BeginsWithoutStar}
 use Rattle.text_roundtrip.proofs.lexed.LexedLemmas.{lexed_then, lexed_open_paren, lexed_close_paren, lexed_open_array, lexed_close_array, lexed_open_brace, lexed_close_brace, lexed_comma_space, lexed_semicolon_space, begins_with, lexed_at}
 use Rattle.text_roundtrip.specs.literal_texts.Blocks.{IsRow}
 use Rattle.text_roundtrip.specs.literal_texts.Forests.{TypesAre, ReadForest}
 use Rattle.text_roundtrip.specs.literal_texts.Listing.{listing, rowing, IsText, AreTexts}
-use Rattle.text_roundtrip.specs.literal_texts.Numbered.{before}
+use Rattle.text_roundtrip.specs.literal_texts.NumberedLabels.{before}
 use Rattle.text_roundtrip.specs.literal_texts.Readable.{AreFieldNames}
 use Rattle.text_roundtrip.proofs.literal_texts.ObjectReadLemmas.{listing_count, rowing_count, rowing_names}
 use Rattle.text_roundtrip.proofs.literal_texts.RowLexLemmas.{parts_lexed, rows_lexed}
@@ -41,11 +41,11 @@ same_types u (suc n) i = (refl, same_types u n (suc i))
 
 -- ---- no star follows an opening parenthesis
 
-no_star : (text later : List ℕ) → Begins text → NoStar (text ++ later)
+no_star : (text later : List ℕ) → BeginsWithoutStar text → NoStar (text ++ later)
 no_star text later begins = subst (λ t. NoStar (t ++ later)) (sym begins.is) begins.no_star
 
-row_begins : (opening between closing : List ℕ) (text : List ℕ) (texts : List (List ℕ)) → Begins text
-    → Begins (row_from (record { opening = opening; labels = []; between = between; closing = closing }) 0 (text ∷ texts))
+row_begins : (opening between closing : List ℕ) (text : List ℕ) (texts : List (List ℕ)) → BeginsWithoutStar text
+    → BeginsWithoutStar (row_from (record { opening = opening; labels = []; between = between; closing = closing }) 0 (text ∷ texts))
 row_begins opening between closing text texts b = record {
   first = b.first;
   others = b.others ++ row_from (record { opening = opening; labels = []; between = between; closing = closing }) 1 texts;
@@ -69,8 +69,8 @@ module _ {T : Type 0} (shape : T → ShapeOf T) (names : T → Names) (labels : 
 
   -- ---- a head and its arguments
 
-  pub applied_row : (s : ShapeOf T) (nm : Names) (t : T) (tag : ℕ) (skip : List Val) (ts : List T) (name : List ℕ) (head : Head) (text : List ℕ) (texts : List (List ℕ)) (v : Literal) (vs : List Literal) (types : ℕ → T)
-      → IsLexed Ends name (head_kinds head) → Begins name → IsText text v → AreTexts texts vs → TypesAre types 0 ts
+  pub applied_row : (s : ShapeOf T) (nm : Names) (t : T) (tag : ℕ) (skip : List Val) (ts : List T) (name : List ℕ) (head : LiteralHead) (text : List ℕ) (texts : List (List ℕ)) (v : Literal) (vs : List Literal) (types : ℕ → T)
+      → IsLexed Ends name (head_kinds head) → BeginsWithoutStar name → IsText text v → AreTexts texts vs → TypesAre types 0 ts
       → start_at t s nm (applied head (listing no_parts v vs).0 (listing no_parts v vs).1) ≡ block tag skip types
       → IsRow shape names labels s nm t tag skip ts ((name ++ codes "(") ++ (row_from (listed name) 0 (text ∷ texts) ++ codes ")")) (v ∷ vs)
   applied_row s nm t tag skip ts name head text texts v vs types lexed begins one are types_are starts =
@@ -154,9 +154,9 @@ module _ {T : Type 0} (shape : T → ShapeOf T) (names : T → Names) (labels : 
                 ∙ row_inside types v (w ∷ vs) symbols.Comma fs c trees reads (k + 1) (k + 1 + length (parts_kinds symbols.Comma ps ++ literal_kinds u ++ mark symbols.Comma));
           }
 
-  pub fields_row : (s : ShapeOf T) (nm : Names) (t : T) (tag : ℕ) (ts : List T) (name : List ℕ) (owner : Option Head) (field : Name) (rest : List Name) (text : List ℕ) (texts : List (List ℕ)) (v : Literal) (vs : List Literal) (types : ℕ → T)
-      → IsLexed Ends name (owner_kinds owner) → Begins (name ++ codes "{") → AreFieldNames (field ∷ rest) → length rest ≡ length texts → length rest ≡ length vs → IsText text v → AreTexts texts vs → TypesAre types 0 ts
-      → ((rs : Rows) (x : Name) (u : Literal) → names_of_rows rs ++ x ∷ [] ≡ field ∷ rest → rows_count rs ≡ length vs → start_at t s nm (fields owner rs x u) ≡ block tag [] types)
+  pub fields_row : (s : ShapeOf T) (nm : Names) (t : T) (tag : ℕ) (ts : List T) (name : List ℕ) (owner : Option LiteralHead) (field : Name) (rest : List Name) (text : List ℕ) (texts : List (List ℕ)) (v : Literal) (vs : List Literal) (types : ℕ → T)
+      → IsLexed Ends name (owner_kinds owner) → BeginsWithoutStar (name ++ codes "{") → AreFieldNames (field ∷ rest) → length rest ≡ length texts → length rest ≡ length vs → IsText text v → AreTexts texts vs → TypesAre types 0 ts
+      → ((rs : FieldRows) (x : Name) (u : Literal) → names_of_rows rs ++ x ∷ [] ≡ field ∷ rest → rows_count rs ≡ length vs → start_at t s nm (fields owner rs x u) ≡ block tag [] types)
       → IsRow shape names labels s nm t tag [] ts ((name ++ codes "{") ++ (row_from (fields_frame name (field ∷ rest)) 0 (text ∷ texts) ++ codes "}")) (v ∷ vs)
   fields_row s nm t tag ts name owner field rest text texts v vs types lexed begins are_names many as_many one are types_are starts =
       let r = rowing no_rows field v rest vs in

@@ -21,17 +21,17 @@ use Rattle.types_spec.specs.declared.types.shape.ShapeOf.{ShapeOf}
 use Rattle.types_spec.specs.declared.types.shape.ShapeOf.TheVariants as shapes
 use Rattle.types_spec.specs.types.Fitting.{tag_with, is_bare, is_number, fits_int, fits_atom}
 use Rattle.types_parse.specs.grammar.Grammar.{mark}
-use Rattle.text_literal.specs.grammar.Literal.{tag_head, integer, character, truth, unit, constant, empty_array, plain_kinds}
+use Rattle.text_literal.specs.literal_grammar.Literal.{tag_head, integer, character, truth, unit, constant, empty_array, plain_kinds}
 use Rattle.text_print.specs.leaves.Frames.{is_hash, tag_text, int_text}
-use Rattle.text_print.specs.leaves.Leaves.{below_text, char_text}
-use Rattle.text_print.specs.show.Named.{HasIntName, HasTag}
+use Rattle.text_print.specs.leaves.LeafTexts.{below_text, char_text}
+use Rattle.text_print.specs.show.NamedFields.{HasIntName, HasTag}
 use Rattle.text_literal.specs.parser.Starts.{small, start_at, is_in_bits, bare_tag, if_tag}
-use Rattle.text_roundtrip.specs.lexed.Lexed.{Ends, IsLexed, Begins}
-use Rattle.text_roundtrip.specs.lexed.Numbers.{InRange, is_minus}
+use Rattle.text_roundtrip.specs.lexed.Lexed.{Ends, IsLexed, BeginsWithoutStar}
+use Rattle.text_roundtrip.specs.lexed.LexedNumbers.{InRange, is_minus}
 use Rattle.text_roundtrip.proofs.lexed.CharLemmas.{char_lexed}
 use Rattle.text_roundtrip.proofs.lexed.LexedLemmas.{lexed_then, lexed_lower, lexed_tag, lexed_open_paren, lexed_close_paren, lexed_open_array, lexed_close_array, begins_with}
-use Rattle.text_roundtrip.proofs.lexed.NumberLemmas.{lexed_integer, begins_integer}
-use Rattle.text_roundtrip.specs.literal_texts.Plain.{IsPlain}
+use Rattle.text_roundtrip.proofs.lexed.LexedNumberLemmas.{lexed_integer, begins_integer}
+use Rattle.text_roundtrip.specs.literal_texts.PlainLiterals.{IsPlain}
 use Rattle.text_roundtrip.specs.literal_texts.Readable.{AreSumNames, IsTagName, IsReadable}
 
 -- ---- names that are words
@@ -76,8 +76,8 @@ in_range n (negsuc m) le h = omega (arith, h, le)
 absent_lexed : (z : ℤ) → InRange z → IsLexed Ends (signed_decimal z) (plain_kinds (integer (record { minus = is_minus z; value = z; suffix = suffixes.Absent })))
 absent_lexed z range = subst (λ t. IsLexed Ends t (plain_kinds (integer (record { minus = is_minus z; value = z; suffix = suffixes.Absent })))) (append-nil (signed_decimal z)) (lexed_integer z suffixes.Absent range)
 
-absent_begins : (z : ℤ) → InRange z → Begins (signed_decimal z)
-absent_begins z range = subst Begins (append-nil (signed_decimal z)) (begins_integer z [] range)
+absent_begins : (z : ℤ) → InRange z → BeginsWithoutStar (signed_decimal z)
+absent_begins z range = subst BeginsWithoutStar (append-nil (signed_decimal z)) (begins_integer z [] range)
 
 pub same_number : (x y : ℤ) → is_number x y ≡ true → x ≡ y
 same_number (pos m) (pos n) e = ap pos (eqb-true m n e)

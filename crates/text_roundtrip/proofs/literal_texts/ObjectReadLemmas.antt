@@ -18,20 +18,20 @@ use Rattle.types_spec.specs.declared.types.shape.ShapeOf.TheVariants as shapes
 use Rattle.types_spec.specs.types.Fitting.{object_fields, has_doubles}
 use Rattle.marshal_spec.specs.format.Token.{IsLeaf}
 use Rattle.types_parse.specs.grammar.Grammar.{Name, mark}
-use Rattle.text_literal.specs.grammar.Literal.{Literal, labelled, integer, string, double, array, fields, Parts, no_parts, more_parts, Rows, no_rows, more_rows, literal_kinds, parts_kinds, rows_kinds, row_start}
-use Rattle.text_literal.specs.grammar.Nodes.{count, rows_count}
+use Rattle.text_literal.specs.literal_grammar.Literal.{Literal, labelled, integer, string, double, array, fields, Parts, no_parts, more_parts, FieldRows, no_rows, more_rows, literal_kinds, parts_kinds, rows_kinds, row_start}
+use Rattle.text_literal.specs.literal_grammar.LiteralNodes.{count, rows_count}
 use Rattle.text_print.specs.leaves.Frames.{object_text, fields_frame, named_frame, row_text}
-use Rattle.text_print.specs.leaves.Leaves.{float_text}
-use Rattle.text_print.specs.show.Named.{HasObjectNames, HasDoublesNames}
+use Rattle.text_print.specs.leaves.LeafTexts.{float_text}
+use Rattle.text_print.specs.show.NamedFields.{HasObjectNames, HasDoublesNames}
 use Rattle.text_print.proofs.show.NamedLemmas.{none_if_true}
 use Rattle.text_literal.specs.parser.Starts.{start_at, doubles_start, whole, same_names, names_of_rows, bits_of, and_bits, bits_of_parts, bits_of_rows}
 use Rattle.text_roundtrip.specs.lexed.Lexed.{Ends}
-use Rattle.text_roundtrip.specs.lexed.Numbers.{is_minus}
+use Rattle.text_roundtrip.specs.lexed.LexedNumbers.{is_minus}
 use Rattle.text_roundtrip.proofs.lexed.CharLemmas.{string_lexed}
 use Rattle.text_roundtrip.proofs.lexed.LexedLemmas.{lexed_then, lexed_open_array, lexed_close_array, lexed_open_brace, lexed_close_brace, lexed_semicolon_space, begins_with, lexed_at}
-use Rattle.text_roundtrip.proofs.lexed.NumberLemmas.{lexed_integer, lexed_bits, begins_integer}
+use Rattle.text_roundtrip.proofs.lexed.LexedNumberLemmas.{lexed_integer, lexed_bits, begins_integer}
 use Rattle.text_roundtrip.specs.literal_texts.Listing.{listing, rowing, IsText, AreTexts}
-use Rattle.text_roundtrip.specs.literal_texts.Plain.{IsPlain}
+use Rattle.text_roundtrip.specs.literal_texts.PlainLiterals.{IsPlain}
 use Rattle.text_roundtrip.specs.literal_texts.Readable.{AreFieldNames, IsReadable}
 use Rattle.text_roundtrip.proofs.literal_texts.LeafReadLemmas.{in_bits, in_range}
 use Rattle.text_roundtrip.proofs.literal_texts.RowLexLemmas.{parts_lexed, rows_lexed}
@@ -42,12 +42,12 @@ pub listing_count : (vs : List Literal) (ps : Parts) (v : Literal) → count (li
 listing_count [] ps v = omega arith
 listing_count (w ∷ ws) ps v = omega (arith, listing_count ws (more_parts ps v) w)
 
-pub rowing_count : (ys : List Name) (ws : List Literal) (rs : Rows) (x : Name) (v : Literal) → length ys ≡ length ws → rows_count (rowing rs x v ys ws).0 ≡ rows_count rs + length ys
+pub rowing_count : (ys : List Name) (ws : List Literal) (rs : FieldRows) (x : Name) (v : Literal) → length ys ≡ length ws → rows_count (rowing rs x v ys ws).0 ≡ rows_count rs + length ys
 rowing_count [] ws rs x v e = omega arith
 rowing_count (y ∷ ys) [] rs x v e = absurd (omega arith)
 rowing_count (y ∷ ys) (w ∷ ws) rs x v e = omega (arith, rowing_count ys ws (more_rows rs x v) y w (omega arith))
 
-pub rowing_names : (ys : List Name) (ws : List Literal) (rs : Rows) (x : Name) (v : Literal) → length ys ≡ length ws
+pub rowing_names : (ys : List Name) (ws : List Literal) (rs : FieldRows) (x : Name) (v : Literal) → length ys ≡ length ws
     → names_of_rows (rowing rs x v ys ws).0 ++ (rowing rs x v ys ws).1 ∷ [] ≡ names_of_rows rs ++ x ∷ ys
 rowing_names [] ws rs x v e = refl
 rowing_names (y ∷ ys) [] rs x v e = absurd (omega arith)
@@ -74,7 +74,7 @@ listing_bits : (bs : List ℕ) (ps : Parts) (v : Literal) (all : List ℕ) → a
 listing_bits [] ps v all e = e ∙ ap (λ t. Some t) (sym (append-nil all))
 listing_bits (b ∷ bs) ps v all e = listing_bits bs (more_parts ps v) (bare b) (all ++ b ∷ []) (ap (λ o. and_bits o (Some b)) e) ∙ ap (λ t. Some t) (append_assoc all (b ∷ []) bs)
 
-rowing_bits : (ys : List Name) (bs : List ℕ) (rs : Rows) (x : Name) (v : Literal) (all : List ℕ) → length ys ≡ length bs → and_bits (bits_of_rows rs) (bits_of v) ≡ Some all
+rowing_bits : (ys : List Name) (bs : List ℕ) (rs : FieldRows) (x : Name) (v : Literal) (all : List ℕ) → length ys ≡ length bs → and_bits (bits_of_rows rs) (bits_of v) ≡ Some all
     → and_bits (bits_of_rows (rowing rs x v ys (map bare bs)).0) (bits_of (rowing rs x v ys (map bare bs)).2) ≡ Some (all ++ bs)
 rowing_bits [] [] rs x v all many e = e ∙ ap (λ t. Some t) (sym (append-nil all))
 rowing_bits [] (b ∷ bs) rs x v all many e = absurd (omega arith)

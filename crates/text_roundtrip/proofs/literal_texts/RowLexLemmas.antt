@@ -6,7 +6,7 @@ use Rattle.types_lex.specs.declared.lexeme.Symbol.{Symbol}
 use Rattle.types_lex.specs.declared.lexeme.Symbol.TheVariants as symbols
 use Rattle.types_lex.specs.Lexeme.{Lower, IsForm}
 use Rattle.types_parse.specs.grammar.Grammar.{Name, mark}
-use Rattle.text_literal.specs.grammar.Literal.{Literal, Parts, no_parts, more_parts, Rows, no_rows, more_rows, literal_kinds, parts_kinds, rows_kinds, row_start}
+use Rattle.text_literal.specs.literal_grammar.Literal.{Literal, Parts, no_parts, more_parts, FieldRows, no_rows, more_rows, literal_kinds, parts_kinds, rows_kinds, row_start}
 use Rattle.text_print.specs.leaves.Frames.{Frame, label_at, before_part, row_from, fields_frame}
 use Rattle.text_roundtrip.specs.lexed.Lexed.{Ends, IsLexed}
 use Rattle.text_roundtrip.proofs.lexed.LexedLemmas.{lexed_at, lexed_then, lexed_lower, lexed_space, lexed_equals, lexed_semicolon_space}
@@ -55,7 +55,7 @@ labels_after : (frame : Frame) (i : ℕ) (field : List ℕ) (fields : List (List
 labels_after frame i field fields from j = let e : suc i + j ≡ i + suc j = omega arith in ap (slice_get frame.labels) e ∙ from (suc j)
 
 module _ (frame : Frame) (between : frame.between ≡ codes "; ") where
-  rowing_lexed : (fields : List (List ℕ)) (texts : List (List ℕ)) (vs : List Literal) (i : ℕ) (rs : Rows) (x : Name) (v : Literal) (text : List ℕ)
+  rowing_lexed : (fields : List (List ℕ)) (texts : List (List ℕ)) (vs : List Literal) (i : ℕ) (rs : FieldRows) (x : Name) (v : Literal) (text : List ℕ)
       → LabelsFrom frame (suc i) fields → AreFieldNames fields → length fields ≡ length texts
       → IsLexed Ends text (rows_kinds rs ++ row_start x ++ literal_kinds v) → AreTexts texts vs
       → let r = rowing rs x v fields vs in IsLexed Ends (text ++ row_from frame (suc i) texts) (rows_kinds r.0 ++ row_start r.1 ++ literal_kinds r.2)

@@ -9,17 +9,17 @@ use Rattle.marshal_spec.specs.format.Tree.{Tree, Forest, none, more, root, roots
 use Rattle.marshal_spec.proofs.format.Counts.{length-objects_of}
 use Rattle.types_lex.specs.declared.lexeme.Symbol.{Symbol}
 use Rattle.types_parse.specs.grammar.Grammar.{Name}
-use Rattle.text_literal.specs.grammar.Literal.{Literal, Parts, no_parts, more_parts, Rows, no_rows, more_rows}
+use Rattle.text_literal.specs.literal_grammar.Literal.{Literal, Parts, no_parts, more_parts, FieldRows, no_rows, more_rows}
 use Rattle.text_roundtrip.specs.literal_texts.Forests.{Reads, ReadForest}
 use Rattle.text_roundtrip.specs.literal_texts.Listing.{listing, rowing}
-use Rattle.text_roundtrip.specs.literal_texts.Numbered.{before}
-use Rattle.text_literal.specs.parser.Reading.{Reading, Refusal, reading, added, and_next, literal_read, parts_read, rows_read}
+use Rattle.text_roundtrip.specs.literal_texts.NumberedLabels.{before}
+use Rattle.text_literal.specs.parser.LiteralReading.{LiteralReading, LiteralRefusal, reading, added, and_next, literal_read, parts_read, rows_read}
 
 module _ {T : Type 0} (shape : T → ShapeOf T) (names : T → Names) (labels : List ℕ) where
   -- If some parts are read and the next literal is read, then the parts and the next literal are
   -- read.
   next_read : (s : Tree) (c d : ℕ) (types : ℕ → T) (v : Literal) (j : ℕ) (values : List Val) (objects : List Obj) → d ≡ c + length objects → Reads shape names labels v (root s d) (objects_of s d) d (d + made s) (types (length values))
-      → (r : Result Reading (Refusal T)) → r ≡ Ok (reading values objects (before d labels))
+      → (r : Result LiteralReading (LiteralRefusal T)) → r ≡ Ok (reading values objects (before d labels))
       → and_next c types r (literal_read shape names j v) ≡ Ok (reading (values ++ root s d ∷ []) (objects ++ objects_of s d) (before (d + made s) labels))
   next_read s c d types v j values objects at reads r is =
       ap (λ r. and_next c types r (literal_read shape names j v)) is
@@ -65,11 +65,11 @@ module _ {T : Type 0} (shape : T → ShapeOf T) (names : T → Names) (labels : 
         ∙ ap (λ n. Ok (reading (roots (more s fs) c) (all_objects (more s fs) c) (before n labels))) (omega arith)
 
   module _ (types : ℕ → T) (c : ℕ) where
-    abbrev RowsRead : Rows × Name × Literal → List Val → List Obj → ℕ → Type 0
+    abbrev RowsRead : FieldRows × Name × Literal → List Val → List Obj → ℕ → Type 0
     RowsRead r values objects d =
         (k j : ℕ) → and_next c types (rows_read shape names k r.0 c (before c labels) types) (literal_read shape names j r.2) ≡ Ok (reading values objects (before d labels))
 
-    rowing_read : (fs : Forest) (fields : List Name) (vs : List Literal) (rs : Rows) (x : Name) (v : Literal) (values : List Val) (objects : List Obj) (d : ℕ) → AreTrees fs → d ≡ c + length objects
+    rowing_read : (fs : Forest) (fields : List Name) (vs : List Literal) (rs : FieldRows) (x : Name) (v : Literal) (values : List Val) (objects : List Obj) (d : ℕ) → AreTrees fs → d ≡ c + length objects
         → length fields ≡ length vs → RowsRead (rs, x, v) values objects d → ReadForest shape names labels types (length values) fs d vs
         → RowsRead (rowing rs x v fields vs) (values ++ roots fs d) (objects ++ all_objects fs d) (d + all_made fs)
     rowing_read none [] [] rs x v values objects d trees at many one reads k j =

@@ -8,15 +8,15 @@ use Rattle.std.proofs.lemmas.List.{append-nil}
 use Rattle.base_data.specs.declared.model.value.Val.TheVariants as vals
 use Rattle.types_spec.specs.declared.types.names.Names.{Names}
 use Rattle.types_spec.specs.declared.types.shape.ShapeOf.{ShapeOf}
-use Rattle.text_literal.specs.grammar.Literal.{again, label_kinds, reference}
-use Rattle.text_print.specs.show.Chunks.{First, Again, has, number_in, label_text, chunk_text}
-use Rattle.text_literal.specs.parser.Reading.{is_next, with_label, again_read}
-use Rattle.text_roundtrip.specs.lexed.Lexed.{Ends, IsLexed, Begins}
+use Rattle.text_literal.specs.literal_grammar.Literal.{again, label_kinds, reference}
+use Rattle.text_print.specs.show.TextChunks.{First, Again, has, number_in, label_text, chunk_text}
+use Rattle.text_literal.specs.parser.LiteralReading.{is_next, with_label, again_read}
+use Rattle.text_roundtrip.specs.lexed.Lexed.{Ends, IsLexed, BeginsWithoutStar}
 use Rattle.text_roundtrip.proofs.lexed.LexedLemmas.{lexed_then, lexed_nothing, lexed_hash, lexed_equals, lexed_at}
-use Rattle.text_roundtrip.proofs.lexed.NumberLemmas.{lexed_natural}
-use Rattle.text_roundtrip.specs.literal_texts.Numbered.{AreIncreasing, before}
+use Rattle.text_roundtrip.proofs.lexed.LexedNumberLemmas.{lexed_natural}
+use Rattle.text_roundtrip.specs.literal_texts.NumberedLabels.{AreIncreasing, before}
 use Rattle.text_roundtrip.specs.readback.Back.{IsBack}
-use Rattle.text_roundtrip.proofs.readback.LabelLemmas.{next_label, no_label, label_of, number_small}
+use Rattle.text_roundtrip.proofs.readback.ReadbackLabelLemmas.{next_label, no_label, label_of, number_small}
 
 reference_lexed : (labels : List ℕ) (o : ℕ) → length labels < 2 ^ 63 → IsLexed Ends (label_text labels o) (reference (number_in labels o))
 reference_lexed labels o few =
@@ -27,7 +27,7 @@ reference_lexed labels o few =
 pub record IsPrefix (labels : List ℕ) (c : ℕ) : Type 0 where
   pub label : Option ℕ
   pub lexed : IsLexed (λ after. Unit {0}) (chunk_text labels (First c)) (label_kinds label)
-  pub begins : (text : List ℕ) → Begins text → Begins (chunk_text labels (First c) ++ text)
+  pub begins : (text : List ℕ) → BeginsWithoutStar text → BeginsWithoutStar (chunk_text labels (First c) ++ text)
   pub next : is_next (before c labels) label ≡ true
   pub labels_are : with_label (before c labels) label c ≡ before (suc c) labels
 

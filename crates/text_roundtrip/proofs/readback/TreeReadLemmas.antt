@@ -15,22 +15,22 @@ use Rattle.types_spec.specs.declared.types.shape.ShapeOf.{ShapeOf}
 use Rattle.types_spec.specs.types.Fault.{type_of_field}
 use Rattle.types_spec.specs.types.Fitting.{numbered_from}
 use Rattle.marshal_spec.specs.format.Tree.{Tree, Forest, none, more, trees_in, AreTrees, root, roots, made, all_made, objects_of, all_objects}
-use Rattle.text_literal.specs.grammar.Literal.{labelled, label_kinds}
-use Rattle.text_literal.specs.parser.Reading.{reading, label_at, begun, block_read, literal_read, inside}
-use Rattle.text_print.specs.show.Chunks.{Chunk, Text, First, has, firsts, agains, chunk_text}
+use Rattle.text_literal.specs.literal_grammar.Literal.{labelled, label_kinds}
+use Rattle.text_literal.specs.parser.LiteralReading.{reading, label_at, begun, block_read, literal_read, inside}
+use Rattle.text_print.specs.show.TextChunks.{TextChunk, Text, First, has, firsts, agains, chunk_text}
 use Rattle.text_print.specs.leaves.Frames.{Frame, before_part, row_from}
-use Rattle.text_print.specs.show.Shown.{Met, met, led_by}
-use Rattle.text_print.proofs.show.ChunkLemmas.{firsts-append, agains-append}
+use Rattle.text_print.specs.show.ShownValues.{Met, met, led_by}
+use Rattle.text_print.proofs.show.ShowChunkLemmas.{firsts-append, agains-append}
 use Rattle.text_literal.specs.parser.Starts.{Start, start_at, small, whole, block as block_of}
-use Rattle.text_roundtrip.specs.lexed.Lexed.{Begins}
+use Rattle.text_roundtrip.specs.lexed.Lexed.{BeginsWithoutStar}
 use Rattle.text_roundtrip.proofs.lexed.LexedLemmas.{lexed_then, lexed_at}
 use Rattle.text_roundtrip.specs.literal_texts.Blocks.{ReadsRow}
 use Rattle.text_roundtrip.specs.literal_texts.Forests.{Reads}
 use Rattle.text_roundtrip.specs.literal_texts.Listing.{IsText}
-use Rattle.text_roundtrip.specs.literal_texts.Numbered.{count_from, down, before}
-use Rattle.text_roundtrip.specs.literal_texts.Plain.{IsPlain}
+use Rattle.text_roundtrip.specs.literal_texts.NumberedLabels.{count_from, down, before}
+use Rattle.text_roundtrip.specs.literal_texts.PlainLiterals.{IsPlain}
 use Rattle.text_roundtrip.specs.readback.Back.{text_by, AreLabels, IsPlaced, IsBack, IsMetBack, AreMetBack}
-use Rattle.text_roundtrip.proofs.readback.LabelLemmas.{count_both}
+use Rattle.text_roundtrip.proofs.readback.ReadbackLabelLemmas.{count_both}
 use Rattle.text_roundtrip.proofs.readback.LabelReadLemmas.{IsPrefix, prefix_of}
 
 -- ---- chunks in order
@@ -39,7 +39,7 @@ has_both : (xs ys : List ℕ) (o : ℕ) → has (xs ++ ys) o ≡ (has xs o || ha
 has_both [] ys o = refl
 has_both (x ∷ xs) ys o = ap (λ b. (x == o) || b) (has_both xs ys o) ∙ sym (or_assoc (x == o) (has xs o) (has ys o))
 
-module _ (ps qs : List Chunk) (labels : List ℕ) (are : AreLabels labels (ps ++ qs)) where
+module _ (ps qs : List TextChunk) (labels : List ℕ) (are : AreLabels labels (ps ++ qs)) where
   labels_left : AreLabels labels ps
   labels_left = record { up = are.up; few = are.few; all = λ o e. are.all o (ap (λ l. has l o) (agains-append ps qs) ∙ has_both (agains ps) (agains qs) o ∙ or_left _ _ e) }
 
@@ -97,7 +97,7 @@ module _ {T : Type 0} (shape : T → ShapeOf T) (names : T → Names) where
         agains_are = λ o e. no_objects o e;
         back = λ labels are. subst (λ d. IsBack shape names labels (text ++ []) value [] c d t) here (record {
           literal = labelled None p.plain;
-          is_text = record { lexed = lexed_at (sym (append-nil text)) refl p.lexed; begins = subst Begins (sym (append-nil text)) p.begins };
+          is_text = record { lexed = lexed_at (sym (append-nil text)) refl p.lexed; begins = subst BeginsWithoutStar (sym (append-nil text)) p.begins };
           reads = λ k. ap (begun k _ c (before c labels) None t (inside shape names _ p.plain (suc c))) p.starts;
         });
       }

@@ -19,26 +19,26 @@ use Rattle.types_spec.specs.types.Fault.{field_of, type_of_field}
 use Rattle.marshal_spec.specs.format.Token.{integer, atom, shared, block, leaf, IsLeaf}
 use Rattle.marshal_spec.specs.format.Tree.{Tree, Forest, node, none, more, trees_in, IsTree, AreTrees, root, roots, made, made_by, all_made, objects_of, all_objects, ReferBack, AllReferBack}
 use Rattle.marshal_spec.proofs.format.Counts.{leaf_fields, length-objects_of, length-roots, made_by_leaf}
-use Rattle.text_print.specs.show.Chunks.{Text, First, Again, has, firsts, agains}
+use Rattle.text_print.specs.show.TextChunks.{Text, First, Again, has, firsts, agains}
 use Rattle.text_print.specs.leaves.Frames.{Frame, before_part, frame_of, int_text, tag_of_values, wildcard_text}
-use Rattle.text_print.specs.show.Shown.{Met, met, led_by, met_within, asked_met, object_met, parts_from}
-use Rattle.text_print.specs.show.Named.{HasObjectNames}
-use Rattle.text_roundtrip.specs.lexed.Lexed.{Begins}
+use Rattle.text_print.specs.show.ShownValues.{Met, met, led_by, met_within, asked_met, object_met, parts_from}
+use Rattle.text_print.specs.show.NamedFields.{HasObjectNames}
+use Rattle.text_roundtrip.specs.lexed.Lexed.{BeginsWithoutStar}
 use Rattle.text_roundtrip.proofs.lexed.LexedLemmas.{lexed_whole}
-use Rattle.text_roundtrip.proofs.lexed.LineLemmas.{lexed_one_line}
+use Rattle.text_roundtrip.proofs.lexed.LexedLineLemmas.{lexed_one_line}
 use Rattle.text_roundtrip.specs.literal_texts.Blocks.{ReadsRow, IsBlockAt}
 use Rattle.text_roundtrip.specs.literal_texts.Readable.{IsReadable}
-use Rattle.text_roundtrip.specs.literal_texts.Numbered.{count_from, down, AreIncreasing, before}
+use Rattle.text_roundtrip.specs.literal_texts.NumberedLabels.{count_from, down, AreIncreasing, before}
 use Rattle.text_roundtrip.proofs.literal_texts.BlockAtLemmas.{block_at}
 use Rattle.text_roundtrip.proofs.literal_texts.LeafReadLemmas.{int_plain, atom_plain}
 use Rattle.text_roundtrip.proofs.literal_texts.ObjectReadLemmas.{object_plain}
 use Rattle.text_roundtrip.specs.readback.Back.{AreShowable, text_by, AreLabels, IsPlaced, IsBack, IsMetBack, AreMetBack}
 use Rattle.text_roundtrip.specs.readback.ReadBack.{IsReadBack}
-use Rattle.text_roundtrip.proofs.readback.LabelLemmas.{has_down, increasing_filter, increasing_count, has_filter, has_count, before_nothing}
+use Rattle.text_roundtrip.proofs.readback.ReadbackLabelLemmas.{has_down, increasing_filter, increasing_count, has_filter, has_count, before_nothing}
 use Rattle.text_roundtrip.proofs.readback.LabelReadLemmas.{again_back}
 use Rattle.text_roundtrip.proofs.readback.TreeReadLemmas.{placed_left, placed_right, placed_here, placed_within, named_numbered, small_back, object_back, block_back, no_more, one_more}
-use Rattle.text_literal.specs.parser.Reading.{literal_read}
-use Rattle.text_print.specs.show.Shown.{shown_text}
+use Rattle.text_literal.specs.parser.LiteralReading.{literal_read}
+use Rattle.text_print.specs.show.ShownValues.{shown_text}
 
 abbrev tail : Forest → Forest
 tail none = none
@@ -291,7 +291,7 @@ module _ {T : Type 0} (shape : T → ShapeOf T) (names : T → Names) (graph : L
 
 -- ---- the whole text
 
-begins_some : {text : List ℕ} → Begins text → 0 < length text
+begins_some : {text : List ℕ} → BeginsWithoutStar text → 0 < length text
 begins_some b = omega (arith, ap length b.is)
 
 count_few : (p : ℕ → Bool) (xs : List ℕ) → length (filter p xs) ≤ length xs

@@ -1,8 +1,8 @@
 -- The names of types of accepted texts can be read back, and the texts of the types' values can be
 -- read back.
 use Rattle.types_table.specs.type_table.Made.{types_of}
-use Rattle.text_roundtrip.proofs.readback.DeclaredLemmas.{texts_are_read_back}
-use Rattle.text_roundtrip.proofs.text.TableLemmas.{texts_are_read_again}
+use Rattle.text_roundtrip.proofs.readback.ReadbackDeclaredLemmas.{texts_are_read_back}
+use Rattle.text_roundtrip.proofs.text_lines.TextLineTableLemmas.{texts_are_read_again}
 use Rattle.text_roundtrip.specs.rebuild.Laws.{NamesAreReadBack, DeclaredTextsAreReadBack, LiteralsAreReadBack}
 use Rattle.text_roundtrip.proofs.rebuild.SpokenTextLemmas.{declared_spoken, type_spoken}
 use Rattle.text_roundtrip.proofs.rebuild.SpokenTypeLemmas.{reached_readable}

@@ -7,8 +7,8 @@ use Rattle.types_spec.specs.types.Names.{names_of}
 use Rattle.types_spec.specs.types.Shape.{shape}
 use Rattle.marshal_spec.proofs.canonical.TreeGraphs.{own_tree}
 use Rattle.text_print.proofs.same_type.KeptLemmas.{type_is_kept}
-use Rattle.text_print.proofs.same_type.TextLemmas.{text_is_kept}
-use Rattle.text_roundtrip.specs.text.Laws.{ReadsAgain}
+use Rattle.text_print.proofs.same_type.SameTypeTextLemmas.{text_is_kept}
+use Rattle.text_roundtrip.specs.text_lines.Laws.{ReadsAgain}
 use Rattle.text_roundtrip.specs.rebuild.Rebuilt.{ValuesAreRebuilt}
 use Rattle.text_roundtrip.proofs.rebuild.LawLemmas.{literals_are_read_back}
 

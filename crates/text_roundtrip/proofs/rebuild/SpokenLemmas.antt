@@ -37,19 +37,19 @@ use Rattle.types_spec.specs.types.Fitting.{tag_with}
 use Rattle.types_spec.specs.types.Names.{no_names, field_names, constant_name, carrying_names, constr_names, tag_name, body_names, declared_body_names, sum_names, predeclared_type_names, head_names}
 use Rattle.types_spec.specs.types.Shape.{is_constant, is_flat, array_of, predeclared_shape, record_shape, body_shape, datatype_shape, tag_shape, head_shape}
 use Rattle.text_print.specs.leaves.Frames.{is_hash}
-use Rattle.text_literal.specs.grammar.Literal.{upper_head, cons_head, empty_head, ref_head}
+use Rattle.text_literal.specs.literal_grammar.Literal.{upper_head, cons_head, empty_head, ref_head}
 use Rattle.text_literal.specs.parser.Starts.{is_constr, same_names}
-use Rattle.text_roundtrip.specs.lexed.Lexed.{Begins, Ends}
+use Rattle.text_roundtrip.specs.lexed.Lexed.{BeginsWithoutStar, Ends}
 use Rattle.text_roundtrip.proofs.lexed.LexedLemmas.{lexed_upper, lexed_lower, lexed_empty, lexed_double_colon, begins_with}
 use Rattle.text_roundtrip.specs.literal_texts.Readable.{IsHead, IsConstantName, IsConstructorName, AreSumNames, AreFieldNames, IsTagName, IsReadable}
 use Rattle.text_roundtrip.proofs.literal_texts.LeafReadLemmas.{same_number}
 use Rattle.text_roundtrip.proofs.literal_texts.ObjectReadLemmas.{same_names_refl}
 use Rattle.text_roundtrip.specs.rebuild.Spoken.{IsSpoken, IsSpokenField, AreSpokenArguments, IsSpokenConstructor, AreOnce, IsSpokenBody, AreSpoken}
-use Rattle.text_roundtrip.proofs.rebuild.OnceLemmas.{all_at, found_at, some_found, position_at, kept_once, kept_all}
+use Rattle.text_roundtrip.proofs.rebuild.RebuildOnceLemmas.{all_at, found_at, some_found, position_at, kept_once, kept_all}
 
 -- ---- heads
 
-upper_begins : (name : List ℕ) → IsForm (Upper name) → Begins name
+upper_begins : (name : List ℕ) → IsForm (Upper name) → BeginsWithoutStar name
 upper_begins [] is = absurd is
 upper_begins (b ∷ bs) is = record { first = b; others = bs; is = refl; no_star = λ e. absurd (false≢true (ap is_ascii_uppercase (sym e) ∙ is.0)) }
 

@@ -7,22 +7,22 @@ use Rattle.types_lex.specs.declared.lexeme.LexemeKind.{LexemeKind}
 use Rattle.types_lex.specs.declared.lexeme.LexemeKind.TheVariants as kinds
 use Rattle.types_lex.specs.declared.lexeme.Keyword.TheVariants as keywords
 use Rattle.types_lex.specs.declared.lexeme.Symbol.TheVariants as symbols
-use Rattle.types_lex.specs.Lexeme.{Form, Reserved, Lower, Upper, Tag, Variable, Character, Number, Quoted, Double, Mark, form_kind, IsForm}
-use Rattle.types_lex.specs.LexText.{Part, Separator, Comment, Word, AreParts, Lexes}
+use Rattle.types_lex.specs.Lexeme.{LexemeForm, Reserved, Lower, Upper, Tag, Variable, Character, Number, Quoted, Double, Mark, form_kind, IsForm}
+use Rattle.types_lex.specs.LexText.{TextPart, Separator, Comment, Word, AreParts, Lexes}
 use Rattle.types_spec.specs.declared.types.decl.Constructor.{Constructor}
 use Rattle.types_spec.specs.declared.types.decl.Decl.{Decl}
 use Rattle.types_spec.specs.types.Occurrence.{Placed, DeclPositions}
 use Rattle.types_spec.specs.types.Scope.{IsSecond, KeepsAll, BreaksInFile, BreaksInType, twice}
 use Rattle.types_spec.specs.types.Ty.{Ty, bracket}
-use Rattle.types_parse.specs.grammar.Grammar.{Name, Kinds, mark, lower, Texpr, single, starred, App, simple, Simple, grouped, Texprs, first, further, Items, one, Item, included, texpr, app, simple_kinds, texprs, items, item, FieldTree, RecordTree, ArgumentsTree, no_arguments, inline, listed, ConstrTree, BodyTree, record_body, variant_body, type_body, DeclTree, GroupTree, FileTree, field_kinds, record_kinds, arguments_kinds, constr_kinds, body_kinds, decl_kinds, group_kinds, file_kinds, each_after, mark_if, word_if, word, params_kinds}
+use Rattle.types_parse.specs.grammar.Grammar.{Name, Kinds, mark, lower, Texpr, single, starred, App, simple, Simple, grouped, Texprs, first, further, Items, one, ItemTree, included, texpr, app, simple_kinds, texprs, items, item, FieldTree, RecordTree, ArgumentsTree, no_arguments, inline, listed, ConstrTree, BodyTree, record_body, variant_body, type_body, DeclTree, GroupTree, FileTree, field_kinds, record_kinds, arguments_kinds, constr_kinds, body_kinds, decl_kinds, group_kinds, file_kinds, each_after, mark_if, word_if, word, params_kinds}
 use Rattle.types_parse.specs.grammar.Grammar as trees
-use Rattle.types_parse.specs.parse.Written.{type_of_texpr, tuple_of, type_of_app, type_of_simple, applied_to, type_of_items, with_item, field_of_tree, fields_of_tree, arguments_of_tree, constructor_of_tree, body_of_tree, declaration_of_tree, with_group, declarations_after, declarations_of}
+use Rattle.types_parse.specs.parse.WrittenTrees.{type_of_texpr, tuple_of, type_of_app, type_of_simple, applied_to, type_of_items, with_item, field_of_tree, fields_of_tree, arguments_of_tree, constructor_of_tree, body_of_tree, declaration_of_tree, with_group, declarations_after, declarations_of}
 use Rattle.types_resolve.specs.occurrences.InFile.{spread, in_constrs, constr_name, constr_size, decl_size, decl_positions, group_positions, positions_after, file_positions}
 use Rattle.types_resolve.specs.occurrences.InText.{in_texpr}
 use Rattle.types_parse.specs.grammar.Depths.{texpr_ends, file_ends}
-use Rattle.types_parse.specs.grammar.Refusals.{Reading, text_read, syntax_at, too_deep_at, IsReading}
-use Rattle.types_parse.specs.grammar.Lexemes.{kinds_of}
-use Rattle.types_wellformed.specs.declarations.Answer.{accepted, IsRead, IsLexed}
+use Rattle.types_parse.specs.grammar.Refusals.{TextReading, text_read, syntax_at, too_deep_at, IsReading}
+use Rattle.types_parse.specs.grammar.LexemeKinds.{kinds_of}
+use Rattle.types_wellformed.specs.declarations.DeclarationAnswer.{accepted, IsRead, IsLexed}
 use Rattle.types_wellformed.specs.declarations.Read.{IsDeclared, IsTypeOf}
 use Rattle.types_lex.specs.declared.lexeme.LexFault.{LexFault}
 use Rattle.types_lex.specs.LexText.{Outcome}
@@ -45,7 +45,7 @@ IsFormKind kind = Unit {0}
 abbrev AreForms : Kinds → Type 0
 AreForms all = AllByRecursion IsFormKind all
 
-form_is : (form : Form) → IsForm form → IsFormKind (form_kind form)
+form_is : (form : LexemeForm) → IsForm form → IsFormKind (form_kind form)
 form_is (Reserved k) is = tt
 form_is (Lower x) is = is
 form_is (Upper x) is = is
@@ -57,7 +57,7 @@ form_is (Quoted cs) is = tt
 form_is (Double ds) is = tt
 form_is (Mark s) is = tt
 
-parts_are_forms : (parts : List Part) (rest : List ℕ) → AreParts parts rest → AreForms (kinds_in parts)
+parts_are_forms : (parts : List TextPart) (rest : List ℕ) → AreParts parts rest → AreForms (kinds_in parts)
 parts_are_forms [] rest are = tt
 parts_are_forms (Separator b ∷ parts) rest are = parts_are_forms parts rest are.1
 parts_are_forms (Comment inside ∷ parts) rest are = parts_are_forms parts rest are.1
@@ -109,7 +109,7 @@ mutual
   items_spoken (one i) forms = item_spoken bracket i tt forms
   items_spoken (trees.more all i) forms = item_spoken (type_of_items all) i (items_spoken all (left (items all) (mark symbols.Bar) (left (items all ++ mark symbols.Bar) (item i) forms))) (right (items all ++ mark symbols.Bar) (item i) forms)
 
-  item_spoken : (whole : Ty) (i : Item) → IsSpoken 0 whole → AreForms (item i) → IsSpoken 0 (with_item whole i)
+  item_spoken : (whole : Ty) (i : ItemTree) → IsSpoken 0 whole → AreForms (item i) → IsSpoken 0 (with_item whole i)
   item_spoken whole (trees.tag name) is forms = (is, forms.0)
   item_spoken whole (trees.tag_of name t) is forms = (is, forms.0, texpr_spoken t forms.1.1)
   item_spoken whole (included a) is forms = (is, app_spoken a forms)
@@ -273,7 +273,7 @@ file_spoken tree all keeps =
 pub declared_spoken : (text : List ℕ) (decls : List Decl) → IsDeclared text decls → AreSpoken decls
 declared_spoken text decls is = subst AreSpoken (sym is.stand) (by_outcome is.answer.0 is.answer.1 is.answer.2)
   where
-    by_reading : (lexemes : List Lexeme) → Lexes text lexemes → (reading : Reading FileTree) → IsReading file_kinds file_ends (kinds_of lexemes) reading
+    by_reading : (lexemes : List Lexeme) → Lexes text lexemes → (reading : TextReading FileTree) → IsReading file_kinds file_ends (kinds_of lexemes) reading
         → IsRead file_kinds file_ends (λ tree. BreaksInFile (file_positions tree)) lexemes (length text) reading (accepted is.tree) → AreSpoken (declarations_of is.tree)
     by_reading lexemes lexes (text_read tree) reads judged =
         let same : file_kinds is.tree ≡ kinds_of lexemes = ap file_kinds (sym judged.0) ∙ reads.encodes in
@@ -288,7 +288,7 @@ declared_spoken text decls is = subst AreSpoken (sym is.stand) (by_outcome is.an
 pub type_spoken : (decls : List Decl) (text : List ℕ) (t : Ty) → IsTypeOf decls text t → IsSpoken 0 t
 type_spoken decls text t is = subst (IsSpoken 0) (sym is.stands) (by_outcome is.answer.0 is.answer.1 is.answer.2)
   where
-    by_reading : (lexemes : List Lexeme) → Lexes text lexemes → (reading : Reading Texpr) → IsReading texpr texpr_ends (kinds_of lexemes) reading
+    by_reading : (lexemes : List Lexeme) → Lexes text lexemes → (reading : TextReading Texpr) → IsReading texpr texpr_ends (kinds_of lexemes) reading
         → IsRead texpr texpr_ends (λ tree. BreaksInType decls (in_texpr 0 false tree)) lexemes (length text) reading (accepted is.tree) → IsSpoken 0 (type_of_texpr is.tree)
     by_reading lexemes lexes (text_read tree) reads judged =
         let same : texpr is.tree ≡ kinds_of lexemes = ap texpr (sym judged.0) ∙ reads.encodes in

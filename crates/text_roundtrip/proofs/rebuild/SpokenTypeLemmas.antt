@@ -29,7 +29,7 @@ use Rattle.types_spec.specs.types.Predeclared.{SumBlock, Sum, sum_at, name_at, t
 use Rattle.types_spec.specs.types.Names.{names_of}
 use Rattle.types_spec.specs.types.Shape.{is_flat, array_of, predeclared_shape, record_shape, types_of_fields, block_of, blocks_in, body_shape, datatype_shape, tag_shape, head_shape, shape}
 use Rattle.types_spec.specs.types.Reached.{listed_if, named_in, parts_of, is_any_head, NoneIsWildcard, reached_from, IsReached}
-use Rattle.types_theory.proofs.equality.ReachedLemmas.{parts_listed}
+use Rattle.types_theory.proofs.equality.EqualityReachedLemmas.{parts_listed}
 use Rattle.text_roundtrip.specs.literal_texts.Readable.{IsReadable, AreReadable}
 use Rattle.text_roundtrip.specs.rebuild.Spoken.{IsSpoken, IsSpokenField, AreSpokenArguments, IsSpokenConstructor, IsSpokenBody, AreSpoken}
 use Rattle.text_roundtrip.proofs.rebuild.SpokenLemmas.{IsSpokenTag, IsSpokenHead, head_readable, declaration_spoken}

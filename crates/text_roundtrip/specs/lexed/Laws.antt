@@ -5,9 +5,9 @@ use Rattle.base_data.specs.model.Bytes.{AreBytes}
 use Rattle.types_lex.specs.declared.lexeme.LexemeKind.TheVariants as kinds
 use Rattle.types_lex.specs.declared.lexeme.Suffix.{Suffix}
 use Rattle.types_lex.specs.Lexeme.{suffix_text}
-use Rattle.text_print.specs.leaves.Leaves.{char_text, float_text, string_text}
+use Rattle.text_print.specs.leaves.LeafTexts.{char_text, float_text, string_text}
 use Rattle.text_roundtrip.specs.lexed.Lexed.{Anything, Ends, IsLexed}
-use Rattle.text_roundtrip.specs.lexed.Numbers.{InRange, integer_kinds}
+use Rattle.text_roundtrip.specs.lexed.LexedNumbers.{InRange, integer_kinds}
 
 abbrev pub StringsAreLexemes : Type 0
 StringsAreLexemes =

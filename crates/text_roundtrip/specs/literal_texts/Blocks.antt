@@ -6,14 +6,14 @@ use Rattle.types_spec.specs.declared.types.names.Names.{Names}
 use Rattle.types_spec.specs.declared.types.shape.ShapeOf.{ShapeOf}
 use Rattle.types_spec.specs.types.Fitting.{numbered_from, block_fields}
 use Rattle.marshal_spec.specs.format.Tree.{Forest, AreTrees, roots, all_made, all_objects}
-use Rattle.text_literal.specs.grammar.Literal.{Literal, Plain, plain_kinds}
+use Rattle.text_literal.specs.literal_grammar.Literal.{Literal, Plain, plain_kinds}
 use Rattle.text_print.specs.leaves.Frames.{Frame, frame_of, row_from}
-use Rattle.text_literal.specs.parser.Reading.{reading, inside}
+use Rattle.text_literal.specs.parser.LiteralReading.{reading, inside}
 use Rattle.text_literal.specs.parser.Starts.{block, start_at}
-use Rattle.text_roundtrip.specs.lexed.Lexed.{Ends, IsLexed, Begins}
+use Rattle.text_roundtrip.specs.lexed.Lexed.{Ends, IsLexed, BeginsWithoutStar}
 use Rattle.text_roundtrip.specs.literal_texts.Forests.{TypesAre, ReadForest}
 use Rattle.text_roundtrip.specs.literal_texts.Listing.{AreTexts}
-use Rattle.text_roundtrip.specs.literal_texts.Numbered.{before}
+use Rattle.text_roundtrip.specs.literal_texts.NumberedLabels.{before}
 
 module _ {T : Type 0} (shape : T → ShapeOf T) (names : T → Names) (labels : List ℕ) where
   -- The whole text is a plain literal that starts the block, and the parts of the literal are read
@@ -22,7 +22,7 @@ module _ {T : Type 0} (shape : T → ShapeOf T) (names : T → Names) (labels : 
       (text : List ℕ) (literals : List Literal) : Type 0 where
     pub plain : Plain
     pub lexed : IsLexed Ends text (plain_kinds plain)
-    pub begins : Begins text
+    pub begins : BeginsWithoutStar text
     pub types : ℕ → T
     pub types_are : TypesAre types 0 ts
     pub starts : start_at t s nm plain ≡ block tag skip types

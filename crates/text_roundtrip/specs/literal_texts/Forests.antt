@@ -5,9 +5,9 @@ use Rattle.base_data.specs.declared.model.value.Obj.{Obj}
 use Rattle.types_spec.specs.declared.types.names.Names.{Names}
 use Rattle.types_spec.specs.declared.types.shape.ShapeOf.{ShapeOf}
 use Rattle.marshal_spec.specs.format.Tree.{Forest, none, more, root, made, objects_of}
-use Rattle.text_literal.specs.grammar.Literal.{Literal}
-use Rattle.text_literal.specs.parser.Reading.{reading, literal_read}
-use Rattle.text_roundtrip.specs.literal_texts.Numbered.{before}
+use Rattle.text_literal.specs.literal_grammar.Literal.{Literal}
+use Rattle.text_literal.specs.parser.LiteralReading.{reading, literal_read}
+use Rattle.text_roundtrip.specs.literal_texts.NumberedLabels.{before}
 
 -- The types of the parts from index `i` on are `ts`.
 abbrev pub TypesAre : {T : Type 0} → (ℕ → T) → ℕ → List T → Type 0

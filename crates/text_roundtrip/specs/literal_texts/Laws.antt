@@ -10,9 +10,9 @@ use Rattle.types_spec.specs.types.Fitting.{fits_int, fits_atom, object_fields, b
 use Rattle.marshal_spec.specs.format.Token.{IsLeaf}
 use Rattle.text_print.specs.leaves.Frames.{int_text, object_text, tag_of_values}
 use Rattle.text_literal.specs.parser.Starts.{small, whole}
-use Rattle.text_print.specs.show.Named.{HasIntName, HasObjectNames, HasBlockNames}
+use Rattle.text_print.specs.show.NamedFields.{HasIntName, HasObjectNames, HasBlockNames}
 use Rattle.text_roundtrip.specs.literal_texts.Blocks.{IsBlockAt}
-use Rattle.text_roundtrip.specs.literal_texts.Plain.{IsPlain}
+use Rattle.text_roundtrip.specs.literal_texts.PlainLiterals.{IsPlain}
 use Rattle.text_roundtrip.specs.literal_texts.Readable.{IsReadable}
 
 -- The text of a value is a literal that starts as the value, for any shapes and names. The law

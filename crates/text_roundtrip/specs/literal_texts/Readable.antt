@@ -12,21 +12,21 @@ use Rattle.types_spec.specs.declared.types.shape.PolyTag.{PolyTag}
 use Rattle.types_spec.specs.declared.types.shape.ShapeOf.{ShapeOf}
 use Rattle.types_spec.specs.declared.types.shape.ShapeOf.TheVariants as shapes
 use Rattle.types_spec.specs.types.Fitting.{tag_with}
-use Rattle.text_literal.specs.grammar.Literal.{Head, tag_head, head_kinds}
+use Rattle.text_literal.specs.literal_grammar.Literal.{LiteralHead, tag_head, head_kinds}
 use Rattle.text_print.specs.leaves.Frames.{is_hash}
 use Rattle.types_spec.specs.declared.types.decl.Decl.{Decl}
 use Rattle.types_spec.specs.types.Names.{names_of}
 use Rattle.types_spec.specs.types.Shape.{shape}
 use Rattle.types_spec.specs.types.Ty.{Ty}
-use Rattle.text_roundtrip.specs.lexed.Lexed.{Ends, IsLexed, Begins}
+use Rattle.text_roundtrip.specs.lexed.Lexed.{Ends, IsLexed, BeginsWithoutStar}
 use Rattle.text_literal.specs.parser.Starts.{constructor_name, is_constr, tag_named}
 
 -- The name is written like the head of a literal.
 pub record IsHead (name : List ℕ) : Type 0 where
-  pub head : Head
+  pub head : LiteralHead
   pub lexed : IsLexed Ends name (head_kinds head)
   pub named : constructor_name head ≡ Some name
-  pub begins : Begins name
+  pub begins : BeginsWithoutStar name
 
 abbrev pub AreFieldNames : List (List ℕ) → Type 0
 AreFieldNames fields = AllByRecursion (λ field. IsForm (Lower field)) fields

@@ -9,14 +9,14 @@ use Rattle.types_spec.specs.declared.types.shape.ShapeOf.{ShapeOf}
 use Rattle.types_spec.specs.types.Fitting.{fields_of, or_none}
 use Rattle.types_spec.specs.types.Fault.{field_of, type_of_field}
 use Rattle.marshal_spec.specs.format.Tree.{Forest, all_made, trees_in}
-use Rattle.text_literal.specs.grammar.Literal.{Literal}
-use Rattle.text_print.specs.show.Chunks.{Chunk, has, firsts, agains, chunk_text}
+use Rattle.text_literal.specs.literal_grammar.Literal.{Literal}
+use Rattle.text_print.specs.show.TextChunks.{TextChunk, has, firsts, agains, chunk_text}
 use Rattle.text_print.specs.leaves.Frames.{Frame, row_from}
-use Rattle.text_print.specs.show.Shown.{Met}
-use Rattle.text_print.specs.show.Named.{HasItsNames}
+use Rattle.text_print.specs.show.ShownValues.{Met}
+use Rattle.text_print.specs.show.NamedFields.{HasItsNames}
 use Rattle.text_roundtrip.specs.literal_texts.Forests.{TypesAre, Reads, ReadForest}
 use Rattle.text_roundtrip.specs.literal_texts.Listing.{IsText, AreTexts}
-use Rattle.text_roundtrip.specs.literal_texts.Numbered.{count_from, down, AreIncreasing}
+use Rattle.text_roundtrip.specs.literal_texts.NumberedLabels.{count_from, down, AreIncreasing}
 use Rattle.text_roundtrip.specs.literal_texts.Readable.{IsReadable}
 
 -- `Holds` is a relation of values and types that is closed under parts. Each value fits its type,
@@ -30,12 +30,12 @@ pub record AreShowable {T : Type 0} (shape : T → ShapeOf T) (names : T → Nam
       → type_of_field (or_none (fields_of graph v (shape t))) i ≡ Some u
       → field_of graph v i ≡ Some w → Holds w u
 
-abbrev pub text_by : List ℕ → List Chunk → List ℕ
+abbrev pub text_by : List ℕ → List TextChunk → List ℕ
 text_by labels chunks = flat_map (chunk_text labels) chunks
 
 -- Labels that increase with the objects. The labels are few enough to be integers, and contain all
 -- objects that are visited again.
-pub record AreLabels (labels : List ℕ) (chunks : List Chunk) : Type 0 where
+pub record AreLabels (labels : List ℕ) (chunks : List TextChunk) : Type 0 where
   pub up : AreIncreasing 0 labels
   pub few : length labels < 2 ^ 63
   pub all : (o : ℕ) → has (agains chunks) o ≡ true → has labels o ≡ true

@@ -2,7 +2,7 @@
 -- text.
 use Rattle.std.specs.Prelude.{◌^◌, ◌<◌, List}
 use Rattle.types_spec.specs.declared.types.decl.Decl.{Decl}
-use Rattle.types_spec.specs.types.Accepted.{AreWellFormed, IsSoundType}
+use Rattle.types_spec.specs.types.WellFormed.{AreWellFormed, IsSoundType}
 use Rattle.types_spec.specs.types.Equal.{declared_shapes}
 use Rattle.types_spec.specs.types.Names.{names_of}
 use Rattle.types_spec.specs.types.Reached.{IsReached}
@@ -10,7 +10,7 @@ use Rattle.types_spec.specs.types.Shape.{shape}
 use Rattle.types_spec.specs.types.Ty.{Ty}
 use Rattle.types_spec.specs.types.Typing.{HasType}
 use Rattle.marshal_spec.specs.format.Tree.{Tree, IsTree, ReferBack, root, made, objects_of}
-use Rattle.text_print.specs.show.Shown.{shown_text}
+use Rattle.text_print.specs.show.ShownValues.{shown_text}
 use Rattle.text_roundtrip.specs.literal_texts.Readable.{AreReadable}
 use Rattle.text_roundtrip.specs.readback.ReadBack.{IsReadBack}
 

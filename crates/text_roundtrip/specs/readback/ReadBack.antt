@@ -6,8 +6,8 @@ use Rattle.types_lex.specs.LexText.{Lexes}
 use Rattle.types_spec.specs.declared.types.names.Names.{Names}
 use Rattle.types_spec.specs.declared.types.shape.ShapeOf.{ShapeOf}
 use Rattle.marshal_spec.specs.format.Tree.{Tree, root, objects_of}
-use Rattle.text_literal.specs.grammar.Literal.{Literal, literal_kinds}
-use Rattle.text_literal.specs.parser.Reading.{reading, literal_read}
+use Rattle.text_literal.specs.literal_grammar.Literal.{Literal, literal_kinds}
+use Rattle.text_literal.specs.parser.LiteralReading.{reading, literal_read}
 
 -- The lexemes are a literal with the value of the tree at the type, and with the objects of the
 -- tree in order.

@@ -1,7 +1,7 @@
 -- The text of a value is read as the value, at types that come from accepted texts.
 use Rattle.std.specs.Prelude.{ℕ, ◌^◌, ◌<◌, List}
 use Rattle.types_spec.specs.declared.types.decl.Decl.{Decl}
-use Rattle.types_spec.specs.types.Accepted.{AreWellFormed, IsSoundType}
+use Rattle.types_spec.specs.types.WellFormed.{AreWellFormed, IsSoundType}
 use Rattle.types_spec.specs.types.Equal.{declared_shapes}
 use Rattle.types_spec.specs.types.Names.{names_of}
 use Rattle.types_spec.specs.types.Reached.{IsReached, NoneIsWildcard}
@@ -9,13 +9,13 @@ use Rattle.types_spec.specs.types.Shape.{shape}
 use Rattle.types_spec.specs.types.Ty.{Ty}
 use Rattle.types_spec.specs.types.Typing.{HasType}
 use Rattle.marshal_spec.specs.format.Tree.{Tree, IsTree, ReferBack, root, made, objects_of}
-use Rattle.text_print.specs.show.Shown.{shown_text}
+use Rattle.text_print.specs.show.ShownValues.{shown_text}
 use Rattle.types_table.specs.declared.type_table.tabled.Tabled.{Tabled}
 use Rattle.types_table.specs.type_table.Made.{types_of, IsTypeTable}
 use Rattle.types_wellformed.specs.declarations.Read.{IsDeclared, IsTypeOf}
 use Rattle.text_roundtrip.specs.literal_texts.Readable.{AreReadable}
 use Rattle.text_roundtrip.specs.readback.ReadBack.{IsReadBack}
-use Rattle.text_roundtrip.specs.text.Laws.{ReadsAgain}
+use Rattle.text_roundtrip.specs.text_lines.Laws.{ReadsAgain}
 
 -- The names of each type that is reached from a type of an accepted text, over declarations of an
 -- accepted text, can be read back. No reached type is `_`.

@@ -5,18 +5,18 @@ use Rattle.base_data.specs.declared.model.value.Obj.{Obj}
 use Rattle.marshal_spec.specs.format.Isomorphism.{Isomorphism, IsTreeOf}
 use Rattle.marshal_spec.specs.format.Tree.{Tree, root, made, objects_of}
 use Rattle.types_spec.specs.declared.types.decl.Decl.{Decl}
-use Rattle.types_spec.specs.types.Accepted.{AreWellFormed, IsSoundType}
+use Rattle.types_spec.specs.types.WellFormed.{AreWellFormed, IsSoundType}
 use Rattle.types_spec.specs.types.Equal.{declared_shapes}
 use Rattle.types_spec.specs.types.Names.{names_of}
 use Rattle.types_spec.specs.types.Reached.{NoneIsWildcard}
 use Rattle.types_spec.specs.types.Shape.{shape}
 use Rattle.types_spec.specs.types.Ty.{Ty}
 use Rattle.types_spec.specs.types.Typing.{HasType}
-use Rattle.text_print.specs.show.Shown.{shown_text}
+use Rattle.text_print.specs.show.ShownValues.{shown_text}
 use Rattle.types_table.specs.declared.type_table.tabled.Tabled.{Tabled}
 use Rattle.types_table.specs.type_table.Made.{types_of, IsTypeTable}
 use Rattle.types_wellformed.specs.declarations.Read.{IsDeclared, IsTypeOf}
-use Rattle.text_roundtrip.specs.text.Laws.{ReadsAgain}
+use Rattle.text_roundtrip.specs.text_lines.Laws.{ReadsAgain}
 
 -- The text is read as the value of `tree`. The value of `tree` is isomorphic to the given value,
 -- and has the type and the text of the given value. The given value's tree, which determines the

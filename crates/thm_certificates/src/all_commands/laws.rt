@@ -1,6 +1,6 @@
 //! The law. A lemma function does nothing at run time: its contract is the law.
 
-ghost use Rattle.thm_certificates.specs.certified.Certified.{WrittenCertificatesAreAccepted};
+ghost use Rattle.thm_certificates.specs.certified.CertifyThenVerify.{WrittenCertificatesAreAccepted};
 ghost use Rattle.session.specs.All.{all_commands};
 
 use crate::certified::laws::written_certificates_are_accepted;

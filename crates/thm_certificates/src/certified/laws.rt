@@ -1,26 +1,26 @@
 //! The laws. A lemma function does nothing at run time: its contract is a law.
 
-ghost use Rattle.cmd_verify.specs.command.Reading.{on_certificates};
-ghost use Rattle.cmd_certify.specs.command.Certified.{on_certified};
-ghost use Rattle.thm_certificates.specs.certified.Certified.{WrittenCertificatesAreAccepted};
-ghost use Rattle.thm_certificates.specs.certified.Shown.{CertifiedAreShown};
+ghost use Rattle.cmd_verify.specs.command.VerifyProgress.{on_certificates};
+ghost use Rattle.cmd_certify.specs.command.CertifiedOutput.{on_certified};
+ghost use Rattle.thm_certificates.specs.certified.CertifyThenVerify.{WrittenCertificatesAreAccepted};
+ghost use Rattle.thm_certificates.specs.certified.ShownLines.{CertifiedTextsAreShown};
 
 use cert_format::written_sections_are_certificates;
-use cert_verify::agreement::laws::{tables_verify_agree, types_are_one_list};
 use cert_verify::certificate::{answers_are_one, reached_pairs_are_accepted};
+use cert_verify::table_independence::laws::{tables_verify_agree, types_are_one_list};
 use cmd_certify::command::laws::{DeclaredCertificates, declared_certificates_are_one};
 use cmd_certify::spec::laws::certifying_keeps_run_spec;
 use cmd_verify::command::laws::{DeclaredSections, declared_sections_are_read_once};
 use cmd_verify::spec::laws::verifying_is_lawful;
 use run_types::laws::declared_types_are_lawful;
-use types_theory::equality::table::tables_have_the_faults;
+use types_theory::equality::table_types::tables_have_the_faults;
 use types_theory::table::tables_decide;
-use types_wellformed::declarations::known::{files_are_well_formed, types_are_sound};
+use types_wellformed::declarations::well_formed_laws::{files_are_well_formed, types_are_sound};
 
 /// If an entry certifies a value, then verifying the entry gives the line that `check` prints for
 /// the value.
 pub fn certified_sections_are_shown()
-    ensures { CertifiedAreShown }
+    ensures { CertifiedTextsAreShown }
 {
     files_are_well_formed();
     types_are_sound();

@@ -3,7 +3,7 @@ use Rattle.std.proofs.Common.{ℕ, ◌≡◌, List, [], ◌∷◌, refl}
 use Rattle.std.specs.Prelude.{ℤ}
 use Rattle.base_data.specs.declared.model.value.Val.TheVariants as vals
 use Rattle.base_data.specs.declared.model.value.Obj.{Obj}
-use Rattle.trees.specs.search_trees.Parts.{Side, to_left, to_right, empty_value, node_at, led_to, IsAtOrBelow}
+use Rattle.trees.specs.search_trees.NodeParts.{Side, to_left, to_right, empty_value, node_at, led_to, IsAtOrBelow}
 
 module _ (graph : List Obj) where
   pub at_itself : (o : ℕ) → IsAtOrBelow graph (vals.Ref o) o

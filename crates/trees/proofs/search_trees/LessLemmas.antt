@@ -8,7 +8,7 @@ use Rattle.std.proofs.lemmas.List.Elements.{Contains-append_cases, Contains-appe
 use Rattle.base_data.proofs.model.Options.{Contains-first, Contains-later, Contains-cases, Contains-none}
 use Rattle.base_data.specs.declared.model.value.Val.{Val}
 use Rattle.base_data.specs.declared.model.value.Obj.{Obj}
-use Rattle.trees.specs.search_trees.Parts.{Key, number, text, are_before, is_key_less, key_of, is_less}
+use Rattle.trees.specs.search_trees.NodeParts.{Key, number, text, are_before, is_key_less, key_of, is_less}
 use Rattle.trees.specs.search_trees.SearchTree.{AreIncreasing}
 
 -- ---- texts

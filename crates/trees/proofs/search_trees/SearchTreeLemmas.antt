@@ -9,8 +9,8 @@ use Rattle.base_data.proofs.model.Options.{Contains-first, Contains-later}
 use Rattle.base_data.specs.declared.model.value.Val.{Val}
 use Rattle.base_data.specs.declared.model.value.Val.TheVariants as vals
 use Rattle.base_data.specs.declared.model.value.Obj.{Obj}
-use Rattle.trees.specs.search_trees.Parts.{node_at, height_of, IsAtOrBelow}
-use Rattle.trees.specs.search_trees.SearchTree.{Tree, empty, node, IsTree, elements, height, AreIncreasing, IsBalanced, StateHeights, IsSearchTree}
+use Rattle.trees.specs.search_trees.NodeParts.{node_at, height_of, IsAtOrBelow}
+use Rattle.trees.specs.search_trees.SearchTree.{SearchTree, empty, node, IsTree, elements, height, AreIncreasing, IsBalanced, StateHeights, IsSearchTree}
 use Rattle.trees.specs.search_trees.TreeFault.{left_height, right_height, IsMiscounted, IsUnbalanced, IsDisordered}
 use Rattle.trees.proofs.search_trees.BelowLemmas.{AtNode, itself, on_left, on_right, at_node, none_below_int}
 use Rattle.trees.proofs.search_trees.LessLemmas.{increasing_less, increasing_more}
@@ -36,13 +36,13 @@ not_far : (l r : ℤ) (a b : ℕ) → l ≡ pos a → r ≡ pos b → b ≤ a + 
 not_far l r a b left right near is = omega (arith, ints, left, right, near, is)
 
 module _ (graph : List Obj) where
-  pub height_is : (v : Val) (tree : Tree) → IsTree graph v tree → StateHeights graph tree → height_of graph v ≡ pos (height tree)
+  pub height_is : (v : Val) (tree : SearchTree) → IsTree graph v tree → StateHeights graph tree → height_of graph v ≡ pos (height tree)
   height_is v empty is stated = ap (height_of graph) is
   height_is v (node left o right) is stated = ap (height_of graph) is.0 ∙ stated.0
 
   -- If an object is at or below the value of a tree, then the object's element is an element of the
   -- tree.
-  pub below_listed : (v : Val) (tree : Tree) → IsTree graph v tree → (p : ℕ) → IsAtOrBelow graph v p → Contains (elements graph tree) (node_at graph p).element
+  pub below_listed : (v : Val) (tree : SearchTree) → IsTree graph v tree → (p : ℕ) → IsAtOrBelow graph v p → Contains (elements graph tree) (node_at graph p).element
   below_listed v empty is p below = absurd (none_below_int graph (pos 0) p (subst (λ w. IsAtOrBelow graph w p) is below))
   below_listed v (node left o right) is p below =
       by_position (below_listed (node_at graph o).left left is.1 p) (below_listed (node_at graph o).right right is.2 p)
@@ -66,7 +66,7 @@ module _ (graph : List Obj) where
 
   pub sound_node : (o : ℕ) → IsSearchTree graph (vals.Ref o) → HasNoFault o
   sound_node o whole = by_tree whole.tree whole.is whole.increasing whole.stated whole.balanced where
-    by_tree : (tree : Tree) → IsTree graph (vals.Ref o) tree → AreIncreasing graph (elements graph tree) → StateHeights graph tree → IsBalanced tree → HasNoFault o
+    by_tree : (tree : SearchTree) → IsTree graph (vals.Ref o) tree → AreIncreasing graph (elements graph tree) → StateHeights graph tree → IsBalanced tree → HasNoFault o
     by_tree empty is increasing stated balanced = absurd (cc)
     by_tree (node left m right) is increasing stated balanced =
         subst (λ q. HasNoFault q) (sym same) (counted, level, ordered) where

@@ -9,7 +9,7 @@ use Rattle.base_data.specs.declared.model.value.Val.TheVariants as vals
 use Rattle.base_data.specs.declared.model.value.Obj.{Obj}
 use Rattle.trees.specs.declared.search_trees.element_span.ElementSpan.{ElementSpan}
 use Rattle.trees.specs.declared.search_trees.element_span.SettledNode.{SettledNode}
-use Rattle.trees.specs.search_trees.Parts.{node_at, is_less, IsAtOrBelow}
+use Rattle.trees.specs.search_trees.NodeParts.{node_at, is_less, IsAtOrBelow}
 use Rattle.trees.specs.search_trees.Span.{IsLesser, IsGreater, IsSpread, IsSpan, IsOnLeftOrAt, IsLeftOver, IsRightUnder, IsSettledAs, IsSettled, IsPartSettled}
 use Rattle.trees.specs.search_trees.TreeFault.{IsElementLess, IsDisordered}
 use Rattle.trees.proofs.search_trees.BelowLemmas.{AtNode, itself, on_left, on_right, at_node, at_itself, below_left, below_right, none_below_int, none_below_atom}

@@ -12,14 +12,14 @@ use Rattle.base_data.specs.declared.model.value.Obj.{Obj}
 use Rattle.base_data.specs.declared.model.value.Obj.TheVariants as objects
 use Rattle.base_data.proofs.model.Lists.{slice_get-set_other, slice_get-set_here}
 use Rattle.marshal_heap.specs.heap.Heap.{object_at, fields_of, field_at, word_of}
-use Rattle.marshal_heap.proofs.heap.ReadLemmas.{field_word-at, word_of-inj}
-use Rattle.marshal_heap.proofs.heap.FieldLemmas.{values_there}
+use Rattle.marshal_heap.proofs.heap.HeapReadLemmas.{field_word-at, word_of-inj}
+use Rattle.marshal_heap.proofs.heap.HeapFieldLemmas.{values_there}
 use Rattle.trees.specs.declared.search_trees.judging.NodesVerdict.{NodesVerdict}
 use Rattle.trees.specs.declared.search_trees.judging.NodesVerdict.TheVariants.{Sound, Faulty}
 use Rattle.trees.specs.declared.search_trees.tree_node.TreeKind.{TreeKind}
 use Rattle.trees.specs.declared.search_trees.tree_node.TreeKind.TheVariants as kinds
 use Rattle.trees.specs.declared.search_trees.element_span.SettledNode.{SettledNode}
-use Rattle.trees.specs.search_trees.Judgement.{rank_of, IsFaultAt, IsKnownBefore, IsJudgement}
+use Rattle.trees.specs.search_trees.NodeJudgement.{rank_of, IsFaultAt, IsKnownBefore, IsJudgement}
 use Rattle.trees.specs.search_trees.Span.{IsSettledAs}
 use Rattle.trees.specs.search_trees.Sweep.{AreKnown, HasKind, IsMostSevere, replaced, more_severe, IsMostSevereFrom}
 use Rattle.trees.specs.search_trees.TreeFault.{IsMiscounted, IsUnbalanced, IsDisordered}

@@ -4,7 +4,7 @@ use Rattle.base_data.specs.declared.model.value.Val.{Val}
 use Rattle.base_data.specs.declared.model.value.Obj.{Obj}
 use Rattle.types_spec.specs.declared.types.decl.Decl.{Decl}
 use Rattle.types_spec.specs.types.Ty.{Ty}
-use Rattle.types_spec.specs.types.Accepted.{AreWellFormed, IsSoundType}
+use Rattle.types_spec.specs.types.WellFormed.{AreWellFormed, IsSoundType}
 use Rattle.types_spec.specs.types.Equal.{Equal, declared_shapes}
 use Rattle.types_spec.specs.types.Fault.{value_at}
 use Rattle.types_spec.specs.types.Names.{names_of}
@@ -14,8 +14,8 @@ use Rattle.types_spec.specs.types.Typing.{HasType}
 use Rattle.trees.specs.search_trees.TreeType.{IsTreeType}
 use Rattle.trees.specs.search_trees.SearchTree.{IsSearchTree}
 use Rattle.trees.specs.search_trees.TreeFault.{HasNoTreeFault}
-use Rattle.trees.specs.search_trees.Verdict.{IsTreeVerdict}
-use Rattle.trees.specs.declared.search_trees.verdict.TreeVerdict.{TreeVerdict}
+use Rattle.trees.specs.search_trees.TreeVerdict.{IsTreeVerdict}
+use Rattle.trees.specs.declared.search_trees.tree_verdict.TreeVerdict.{TreeVerdict}
 
 -- If a path leads to a value at the type of a tree, then the value is a search tree.
 abbrev pub HasSearchTrees : List Decl → List Obj → Val → Ty → Type 0

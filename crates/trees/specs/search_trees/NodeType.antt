@@ -3,7 +3,7 @@ use Rattle.std.specs.Prelude.{ℕ, ◌≡◌, ◌⊎◌, false, Option}
 use Rattle.types_spec.specs.declared.types.shape.Constr.{Constr}
 use Rattle.types_spec.specs.declared.types.shape.ShapeOf.TheVariants as shapes
 use Rattle.types_table.specs.declared.type_table.tabled.Tabled.{Tabled}
-use Rattle.trees.specs.declared.search_trees.types.NodeRepresentation.{NodeRepresentation}
+use Rattle.trees.specs.declared.search_trees.set_and_map_types.NodeRepresentation.{NodeRepresentation}
 use Rattle.trees.specs.search_trees.TreeType.{layout_of, field_names, names_with, fields_in}
 use Rattle.trees.specs.search_trees.TreeType.{shape_in}
 use Rattle.trees.specs.search_trees.TreeType.{names_in, SameClass}

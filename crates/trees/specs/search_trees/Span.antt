@@ -5,7 +5,7 @@ use Rattle.base_data.specs.declared.model.value.Val.TheVariants as vals
 use Rattle.base_data.specs.declared.model.value.Obj.{Obj}
 use Rattle.trees.specs.declared.search_trees.element_span.ElementSpan.{ElementSpan}
 use Rattle.trees.specs.declared.search_trees.element_span.SettledNode.{SettledNode}
-use Rattle.trees.specs.search_trees.Parts.{node_at, IsAtOrBelow}
+use Rattle.trees.specs.search_trees.NodeParts.{node_at, IsAtOrBelow}
 use Rattle.trees.specs.search_trees.TreeFault.{IsElementLess, IsDisordered}
 
 -- ---- the least and the greatest of two

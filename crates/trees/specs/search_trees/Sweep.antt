@@ -8,7 +8,7 @@ use Rattle.trees.specs.declared.search_trees.judging.NodesVerdict.TheVariants.{S
 use Rattle.trees.specs.declared.search_trees.tree_node.TreeKind.{TreeKind}
 use Rattle.trees.specs.declared.search_trees.tree_node.TreeKind.TheVariants as kinds
 use Rattle.trees.specs.declared.search_trees.element_span.SettledNode.{SettledNode}
-use Rattle.trees.specs.search_trees.Judgement.{rank_of, IsKnownBefore}
+use Rattle.trees.specs.search_trees.NodeJudgement.{rank_of, IsKnownBefore}
 use Rattle.trees.specs.search_trees.Span.{IsSettledAs}
 use Rattle.trees.specs.search_trees.TreeFault.{IsMiscounted, IsUnbalanced, IsDisordered}
 

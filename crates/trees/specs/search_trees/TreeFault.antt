@@ -12,7 +12,7 @@ use Rattle.types_spec.specs.types.Fitting.{shaped}
 use Rattle.trees.specs.declared.search_trees.tree_node.TreeKind.{TreeKind}
 use Rattle.trees.specs.declared.search_trees.tree_node.TreeKind.TheVariants as kinds
 use Rattle.trees.specs.search_trees.TreeType.{IsTreeType}
-use Rattle.trees.specs.search_trees.Parts.{node_at, height_of, is_less, IsAtOrBelow}
+use Rattle.trees.specs.search_trees.NodeParts.{node_at, height_of, is_less, IsAtOrBelow}
 
 -- ---- one node
 

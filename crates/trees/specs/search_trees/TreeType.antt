@@ -12,8 +12,8 @@ use Rattle.types_spec.specs.declared.types.shape.ShapeOf.TheVariants as shapes
 use Rattle.types_spec.specs.types.Names.{no_names}
 use Rattle.types_spec.specs.types.Table.{node_or_none}
 use Rattle.types_table.specs.declared.type_table.tabled.Tabled.{Tabled}
-use Rattle.trees.specs.declared.search_trees.types.NodeRepresentation.{NodeRepresentation}
-use Rattle.trees.specs.declared.search_trees.types.NodeRepresentation.TheVariants as layouts
+use Rattle.trees.specs.declared.search_trees.set_and_map_types.NodeRepresentation.{NodeRepresentation}
+use Rattle.trees.specs.declared.search_trees.set_and_map_types.NodeRepresentation.TheVariants as layouts
 
 -- The representation of a node. If a node has a datum, then the node belongs to a map.
 abbrev pub layout_of : {T : Type 0} → Option T → NodeRepresentation

@@ -2,8 +2,8 @@
 
 ghost use Rattle.std.specs.Prelude.{ℕ, ◌≡◌, ◌↔◌, length, IsTrue, Contains, vec_len};
 ghost use Rattle.base_data.specs.declared.model.value.Val.TheVariants as vals;
-ghost use Rattle.trees.specs.search_trees.Parts as parts;
-ghost use Rattle.trees.specs.search_trees.Parts.{IsAtOrBelow};
+ghost use Rattle.trees.specs.search_trees.NodeParts as parts;
+ghost use Rattle.trees.specs.search_trees.NodeParts.{IsAtOrBelow};
 ghost use Rattle.trees.specs.search_trees.TreeFault.{IsElementLess};
 ghost use Rattle.trees.specs.search_trees.Valid.{IsValid};
 ghost use Rattle.trees.specs.search_trees.Span.{IsLesser, IsGreater, IsSpread, IsSpan};
@@ -11,7 +11,7 @@ ghost use Rattle.trees.specs.search_trees.Span.{IsOnLeftOrAt};
 ghost use Rattle.trees.specs.search_trees.Span.{IsLeftOver, IsRightUnder, IsSettledAs, IsSettled};
 ghost use Rattle.trees.specs.search_trees.Span.{IsPartSettled, IsReady};
 
-use crate::search_trees::order::{Objects, is_element_less};
+use crate::search_trees::element_order::{Objects, is_element_less};
 use crate::search_trees::tree_node::{TreeNode, node_at};
 use base_data::model::value::Val;
 use marshal_heap::heap::{Heap, NumberedObject};

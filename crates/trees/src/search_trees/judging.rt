@@ -3,11 +3,11 @@
 ghost use Rattle.std.specs.Prelude.{ℕ, ◌<◌, length, All, IfOk};
 ghost use Rattle.trees.specs.search_trees.TreeFault.{IsMiscounted, IsUnbalanced, IsDisordered};
 ghost use Rattle.trees.specs.search_trees.Span.{IsMarked};
-ghost use Rattle.trees.specs.search_trees.Judgement.{AreClosed, IsJudgement, IsFirst, HasAt};
+ghost use Rattle.trees.specs.search_trees.NodeJudgement.{AreClosed, IsJudgement, IsFirst, HasAt};
 
 use crate::search_trees::element_span::SettledNode;
+use crate::search_trees::fault_sweep::sweep;
 use crate::search_trees::levels::{by_height, settle_all};
-use crate::search_trees::sweep::sweep;
 use crate::search_trees::tree_node::{TreeKind, is_miscounted, is_unbalanced};
 use base_data::model::Memory;
 use marshal_heap::heap::{Heap, NumberedObject};

@@ -2,9 +2,9 @@
 
 ghost use Rattle.std.specs.Prelude.{ℕ, ◌≡◌, ◌<◌, ◌^◌, length, All, Contains, IfOk, OnOk, vec_len};
 ghost use Rattle.std.specs.Prelude.{pos};
-ghost use Rattle.trees.specs.search_trees.Parts as parts;
-ghost use Rattle.trees.specs.search_trees.Levels.{AreLevels, AreRising, HasLevel, HasRooms};
-ghost use Rattle.trees.specs.search_trees.Levels.{IsWritten, Has};
+ghost use Rattle.trees.specs.search_trees.NodeParts as parts;
+ghost use Rattle.trees.specs.search_trees.TreeLevels.{AreLevels, AreRising, HasLevel, HasRooms};
+ghost use Rattle.trees.specs.search_trees.TreeLevels.{IsWritten, Has};
 ghost use Rattle.trees.specs.search_trees.Span.{IsSettled};
 
 use crate::search_trees::element_span::{ElementSpan, SettledNode, settle};

@@ -5,8 +5,8 @@ ghost use Rattle.std.specs.Prelude.{IsTrue};
 ghost use Rattle.base_data.specs.model.Graph.{IsValue, IsInteger};
 ghost use Rattle.marshal_heap.specs.heap.Heap.{object_at, fields_of, field_at, word_of};
 ghost use Rattle.marshal_heap.specs.heap.Heap.{IsFieldWord};
-ghost use Rattle.trees.specs.search_trees.Parts as parts;
-ghost use Rattle.trees.specs.search_trees.Parts.{node_of};
+ghost use Rattle.trees.specs.search_trees.NodeParts as parts;
+ghost use Rattle.trees.specs.search_trees.NodeParts.{node_of};
 ghost use Rattle.trees.specs.search_trees.Valid.{IsValid};
 ghost use Rattle.trees.specs.search_trees.TreeFault.{IsMiscounted, IsUnbalanced};
 

@@ -15,25 +15,25 @@ use Rattle.types_spec.specs.declared.types.head.HeadOf.TheVariants as heads
 use Rattle.types_spec.specs.declared.types.names.Names.{Names}
 use Rattle.types_spec.specs.declared.types.shape.ShapeOf.{ShapeOf}
 use Rattle.types_spec.specs.types.Ty.{Ty, tuple}
-use Rattle.types_spec.specs.types.Nodes.{type_at}
+use Rattle.types_spec.specs.types.TypeNodes.{type_at}
 use Rattle.types_spec.specs.types.Head.{head}
 use Rattle.types_spec.specs.types.Shape.{shape}
 use Rattle.types_spec.specs.types.Names.{names_of}
 use Rattle.types_spec.specs.types.Reached.{named_in, parts_of, reached_from, IsWithoutRepeats, IsFromEarlier, ReachesTooMany}
 use Rattle.types_spec.specs.types.Table.{with_parts, head_with_parts}
 use Rattle.types_table.specs.store.Held.{AreDistinct, Grows}
-use Rattle.types_table.proofs.store.HeldLemmas.{Grows-none, Grows-then, there_kept, get-map}
-use Rattle.types_build.proofs.representation.FoundLemmas.{tags_of_head}
+use Rattle.types_table.proofs.store.StoreHeldLemmas.{Grows-none, Grows-then, there_kept, get-map}
+use Rattle.types_build.proofs.representation.RepresentationFoundLemmas.{tags_of_head}
 use Rattle.types_build.specs.declared.representation.representation.Representation.{Representation}
-use Rattle.types_build.specs.representation.Found.{AreFound}
+use Rattle.types_build.specs.representation.FoundHeads.{AreFound}
 use Rattle.types_build.specs.representation.Representation.{IsRepresentationOf, AreNamesAt}
 use Rattle.types_build.specs.declared.builder.type_entry.TypeEntry.{TypeEntry}
-use Rattle.types_build.specs.builder.Placed.{SayTheSame, IsShapePlaced, IsHeadPlaced}
+use Rattle.types_build.specs.builder.PlacedTypes.{SayTheSame, IsShapePlaced, IsHeadPlaced}
 use Rattle.types_build.specs.builder.Listed.{types_at, AreWithin, IsPlacedEntry, IsEntry, IsListing}
-use Rattle.types_build.proofs.builder.PlacedLemmas.{SayTheSame-before, IsPlaced-grows, one_more}
+use Rattle.types_build.proofs.builder.BuilderPlacedLemmas.{SayTheSame-before, IsPlaced-grows, one_more}
 use Rattle.types_build.proofs.builder.RepeatLemmas.{repeats_then, repeats_among, repeats_distinct, old_or_added}
-use Rattle.types_build.proofs.builder.MetLemmas.{MetAfter, met_after}
-use Rattle.types_build.proofs.builder.PartLemmas.{AreNumbers, shape_numbers, head_numbers}
+use Rattle.types_build.proofs.builder.BuilderMetLemmas.{MetAfter, met_after}
+use Rattle.types_build.proofs.builder.BuilderPartLemmas.{AreNumbers, shape_numbers, head_numbers}
 
 -- ---- growth of the store
 

@@ -5,7 +5,7 @@ use Rattle.types_spec.specs.declared.types.decl.Predeclared.TheVariants as bases
 use Rattle.types_spec.specs.declared.types.decl.Decl.{Decl}
 use Rattle.types_spec.specs.declared.types.shape.ShapeOf.TheVariants as shapes
 use Rattle.types_spec.specs.types.Ty.{Ty}
-use Rattle.types_spec.specs.types.Nodes.{type_at}
+use Rattle.types_spec.specs.types.TypeNodes.{type_at}
 use Rattle.types_spec.specs.types.Shape.{predeclared_shape}
 use Rattle.types_build.specs.representation.Kind.{IsBase}
 use Rattle.types_build.specs.representation.Representation.{IsShapeAt}

@@ -11,16 +11,16 @@ use Rattle.types_spec.specs.declared.types.decl.Decl.{Decl}
 use Rattle.types_spec.specs.declared.types.shape.Constr.{Constr}
 use Rattle.types_spec.specs.declared.types.shape.ShapeOf.TheVariants as shapes
 use Rattle.types_spec.specs.types.Ty.{Ty, tuple, instance}
-use Rattle.types_spec.specs.types.Nodes.{type_at}
+use Rattle.types_spec.specs.types.TypeNodes.{type_at}
 use Rattle.types_spec.specs.types.Declarations.{instance_of}
 use Rattle.types_spec.specs.types.Shape.{any_mutable, is_flat, types_of_fields, record_shape, body_shape}
 use Rattle.types_spec.specs.types.Table.{constr_with}
 use Rattle.types_table.specs.store.Held.{Grows, Holds}
 use Rattle.types_table.specs.store.Instance.{HasNumbers, HoldsEach, argument_at}
-use Rattle.types_table.proofs.store.HeldLemmas.{Grows-held}
-use Rattle.types_table.proofs.store.InstanceLemmas.{types_at-kept, below_kept}
+use Rattle.types_table.proofs.store.StoreHeldLemmas.{Grows-held}
+use Rattle.types_table.proofs.store.StoreInstanceLemmas.{types_at-kept, below_kept}
 use Rattle.types_build.specs.representation.Representation.{instance_at, IsShapeAt, HasBlocks, HasBlock}
-use Rattle.types_build.proofs.representation.LoopLemmas.{filtered_some, filtered_none}
+use Rattle.types_build.proofs.representation.RepresentationLoopLemmas.{filtered_some, filtered_none}
 use Rattle.types_build.proofs.representation.RepresentationLemmas.{numbers_found, product_at}
 
 -- ---- arguments do not change

@@ -7,12 +7,12 @@ use Rattle.types_spec.specs.declared.types.head.HeadOf.{HeadOf}
 use Rattle.types_spec.specs.declared.types.head.HeadOf.TheVariants as heads
 use Rattle.types_spec.specs.types.Ty.{Ty, bracket, including}
 use Rattle.types_spec.specs.types.Head.{head, tags_in, has_tag}
-use Rattle.types_spec.specs.types.Accepted.{AreSound}
+use Rattle.types_spec.specs.types.WellFormed.{AreSound}
 use Rattle.types_spec.specs.types.Table.{tag_with_part}
 use Rattle.types_build.specs.representation.Tags.{IsHeadOf}
 use Rattle.types_build.specs.representation.Heads.{IsTagsHead}
-use Rattle.types_build.proofs.representation.BracketLemmas.{head_of_bracket}
-use Rattle.types_build.proofs.representation.FoundLemmas.{tags_of_head}
+use Rattle.types_build.proofs.representation.RepresentationBracketLemmas.{head_of_bracket}
+use Rattle.types_build.proofs.representation.RepresentationFoundLemmas.{tags_of_head}
 
 all_new : (more : List (TagOf Ty)) → filter (λ (item : TagOf Ty). not (has_tag [] item.name)) more ≡ more
 all_new [] = refl

@@ -4,18 +4,18 @@ use Rattle.std.specs.Prelude.{MatchOption}
 use Rattle.std.proofs.lemmas.Option.{get_or_from_slice_get, slice_get_within}
 use Rattle.types_spec.specs.declared.types.decl.Decl.{Decl}
 use Rattle.types_spec.specs.types.Ty.{Ty, tuple}
-use Rattle.types_spec.specs.types.Nodes.{type_at}
+use Rattle.types_spec.specs.types.TypeNodes.{type_at}
 use Rattle.types_spec.specs.types.Declarations.{unfolded}
-use Rattle.types_spec.specs.types.Accepted.{AreSound}
+use Rattle.types_spec.specs.types.WellFormed.{AreSound}
 use Rattle.types_spec.specs.types.Head.{head}
-use Rattle.types_spec.proofs.types.NodeLemmas.{at_kept}
-use Rattle.types_theory.proofs.equality.NeedLemmas.{head_again}
+use Rattle.types_spec.proofs.types.TypeNodeLemmas.{at_kept}
+use Rattle.types_theory.proofs.equality.EqualityNeedLemmas.{head_again}
 use Rattle.types_theory.proofs.equality.RankedLemmas.{are_ranked}
 use Rattle.types_table.specs.store.Held.{Grows}
 use Rattle.types_build.specs.representation.Unfolded.{IsReplaced, IsLeft}
-use Rattle.types_build.specs.representation.Way.{EachPasses, IsNearer}
-use Rattle.types_build.proofs.representation.ReplacedLemmas.{ComesTo, times_more}
-use Rattle.types_build.proofs.representation.WayLemmas.{passes_once, comes_more, way_head, way_work}
+use Rattle.types_build.specs.representation.AbbreviationWay.{EachPasses, IsNearer}
+use Rattle.types_build.proofs.representation.RepresentationReplacedLemmas.{ComesTo, times_more}
+use Rattle.types_build.proofs.representation.RepresentationWayLemmas.{passes_once, comes_more, way_head, way_work}
 use Rattle.types_build.specs.representation.Work.{work}
 use Rattle.types_build.proofs.representation.WorkLemmas.{work_again}
 

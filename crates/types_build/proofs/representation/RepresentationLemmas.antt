@@ -11,7 +11,7 @@ use Rattle.types_spec.specs.declared.types.head.HeadOf.TheVariants as heads
 use Rattle.types_spec.specs.declared.types.shape.PolyTag.{PolyTag}
 use Rattle.types_spec.specs.declared.types.shape.ShapeOf.TheVariants as shapes
 use Rattle.types_spec.specs.types.Ty.{Ty, tuple}
-use Rattle.types_spec.specs.types.Nodes.{type_at}
+use Rattle.types_spec.specs.types.TypeNodes.{type_at}
 use Rattle.types_spec.specs.types.Head.{head}
 use Rattle.types_spec.specs.types.Names.{tag_name, head_names}
 use Rattle.types_spec.specs.types.Reached.{listed_if, parts_of}
@@ -22,7 +22,7 @@ use Rattle.types_spec.specs.declared.types.names.Names.{Names}
 use Rattle.types_theory.proofs.equality.HeadMapLemmas.{parts_of-map}
 use Rattle.types_table.specs.store.Held.{Grows}
 use Rattle.types_table.specs.store.Instance.{HasNumbers}
-use Rattle.types_table.proofs.store.HeldLemmas.{there_kept}
+use Rattle.types_table.proofs.store.StoreHeldLemmas.{there_kept}
 use Rattle.types_build.specs.representation.Representation.{head_of_types, IsShapeAt, hashed, named, AreNamesAt}
 
 -- ---- functions that agree on the parts

@@ -5,11 +5,11 @@ use Rattle.std.proofs.lemmas.List.{append_assoc, reverse-append, length-reverse,
 use Rattle.std.proofs.lemmas.Option.{get_or_from_slice_get}
 use Rattle.types_spec.specs.types.Ty.{Ty, tuple, part, parts}
 use Rattle.types_spec.specs.declared.types.ty.TypeTreeNode.{TypeTreeNode}
-use Rattle.types_spec.specs.types.Nodes.{type_at, type_of_node}
+use Rattle.types_spec.specs.types.TypeNodes.{type_at, type_of_node}
 use Rattle.types_table.specs.declared.store.stored_node.TypeNode.{TypeNode}
 use Rattle.types_table.specs.declared.store.stored_node.TypeNode.TheVariants as borrowed
-use Rattle.types_table.specs.store.Borrowed.{written_of}
-use Rattle.types_build.specs.representation.Plain.{root_of}
+use Rattle.types_table.specs.store.BorrowedNode.{written_of}
+use Rattle.types_build.specs.representation.PlainHeads.{root_of}
 
 pub type_at-node : (types : List Ty) (i : ℕ) (node : TypeTreeNode) → slice_get types i ≡ Some (type_of_node types node) → type_at types i ≡ type_of_node types node
 type_at-node types i node is = get_or_from_slice_get types i (type_of_node types node) tuple is

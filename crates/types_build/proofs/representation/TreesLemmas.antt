@@ -10,9 +10,9 @@ use Rattle.types_spec.specs.declared.types.shape.PolyTag.{PolyTag}
 use Rattle.types_spec.specs.declared.types.shape.ShapeOf.{ShapeOf}
 use Rattle.types_spec.specs.declared.types.shape.ShapeOf.TheVariants as shapes
 use Rattle.types_spec.specs.types.Ty.{Ty, tuple}
-use Rattle.types_spec.specs.types.Nodes.{type_at}
+use Rattle.types_spec.specs.types.TypeNodes.{type_at}
 use Rattle.types_spec.specs.types.Reached.{listed_if, named_in}
-use Rattle.types_spec.proofs.types.ShapeLemmas.{named_in-map}
+use Rattle.types_spec.proofs.types.TypeShapeLemmas.{named_in-map}
 use Rattle.types_spec.specs.types.Table.{constr_with, tag_with_parts, with_parts}
 use Rattle.types_build.specs.representation.Representation.{IsShapeAt}
 use Rattle.types_build.proofs.representation.RepresentationLemmas.{list_twice, below_found}

@@ -4,7 +4,7 @@ use Rattle.std.proofs.Common.{refl, ap, arith}
 use Rattle.types_spec.specs.declared.types.decl.Decl.{Decl}
 use Rattle.types_spec.specs.types.Ty.{Ty, variable, named, tuple, bracket, part, tag, tag_of, including}
 use Rattle.types_spec.specs.types.Declarations.{unfolded}
-use Rattle.types_spec.specs.types.Accepted.{AreSound}
+use Rattle.types_spec.specs.types.WellFormed.{AreSound}
 use Rattle.types_spec.specs.types.Head.{enough}
 use Rattle.types_build.specs.representation.Work.{written_work, work_by, work_within, work}
 use Rattle.types_theory.proofs.equality.RankedLemmas.{are_ranked}

@@ -7,7 +7,7 @@ use Rattle.types_spec.specs.declared.types.head.HeadOf.{HeadOf}
 use Rattle.types_spec.specs.declared.types.names.Names.{Names}
 use Rattle.types_spec.specs.declared.types.shape.ShapeOf.{ShapeOf}
 use Rattle.types_spec.specs.types.Ty.{Ty}
-use Rattle.types_spec.specs.types.Nodes.{type_at}
+use Rattle.types_spec.specs.types.TypeNodes.{type_at}
 use Rattle.types_spec.specs.types.Head.{head}
 use Rattle.types_spec.specs.types.Shape.{shape}
 use Rattle.types_spec.specs.types.Names.{names_of}
@@ -16,11 +16,11 @@ use Rattle.types_spec.specs.types.Table.{with_parts, head_with_parts}
 use Rattle.types_table.specs.store.Held.{Grows}
 use Rattle.types_build.specs.declared.representation.representation.Representation.{Representation}
 use Rattle.types_build.specs.representation.Representation.{AreNamesAt}
-use Rattle.types_table.specs.partition.Found.{AreClasses}
+use Rattle.types_table.specs.partition.FoundClasses.{AreClasses}
 use Rattle.types_table.specs.declared.type_table.tabled.Tabled.{Tabled}
 use Rattle.types_build.specs.declared.builder.type_entry.TypeEntry.{TypeEntry}
 use Rattle.types_build.specs.declared.builder.listing.Listing.{Listing}
-use Rattle.types_build.specs.builder.Placed.{IsShapePlaced, IsHeadPlaced}
+use Rattle.types_build.specs.builder.PlacedTypes.{IsShapePlaced, IsHeadPlaced}
 
 -- The types of the store with the indices `numbers`.
 abbrev pub types_at : List Ty → List ℕ → List Ty

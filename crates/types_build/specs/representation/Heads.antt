@@ -4,8 +4,8 @@ use Rattle.types_spec.specs.declared.types.decl.Decl.{Decl}
 use Rattle.types_spec.specs.declared.types.head.HeadOf.{HeadOf}
 use Rattle.types_spec.specs.declared.types.head.HeadOf.TheVariants as heads
 use Rattle.types_spec.specs.types.Ty.{Ty}
-use Rattle.types_build.specs.declared.representation.heads.Heads.{Heads}
-use Rattle.types_build.specs.representation.Found.{AreFound, AreTagsOf}
+use Rattle.types_build.specs.declared.representation.remembered_heads.Heads.{Heads}
+use Rattle.types_build.specs.representation.FoundHeads.{AreFound, AreTagsOf}
 
 -- Each remembered type index has one head, and the head is correct.
 pub record AreHeads (decls : List Decl) (types : List Ty) (heads : Heads) : Type 0 where

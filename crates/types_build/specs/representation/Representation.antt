@@ -16,7 +16,7 @@ use Rattle.types_spec.specs.declared.types.names.ConstrNames.{ConstrNames}
 use Rattle.types_spec.specs.declared.types.predeclared.BlockRow.{BlockRow}
 use Rattle.types_spec.specs.tag_hash.TagHash.{tag_hash}
 use Rattle.types_spec.specs.types.Ty.{Ty}
-use Rattle.types_spec.specs.types.Nodes.{type_at}
+use Rattle.types_spec.specs.types.TypeNodes.{type_at}
 use Rattle.types_spec.specs.types.Declarations.{instance_of}
 use Rattle.types_spec.specs.types.Head.{head}
 use Rattle.types_spec.specs.types.Shape.{shape}

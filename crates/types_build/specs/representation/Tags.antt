@@ -8,7 +8,7 @@ use Rattle.types_spec.specs.declared.types.decl.Decl.{Decl}
 use Rattle.types_spec.specs.declared.types.head.TagOf.{TagOf}
 use Rattle.types_spec.specs.declared.types.head.HeadOf.{HeadOf}
 use Rattle.types_spec.specs.types.Ty.{Ty, bracket, tag, tag_of, including}
-use Rattle.types_spec.specs.types.Nodes.{type_at}
+use Rattle.types_spec.specs.types.TypeNodes.{type_at}
 use Rattle.types_spec.specs.types.Head.{head, tags_in, joined, bare_tag, carrying_tag}
 use Rattle.types_spec.specs.types.Table.{tag_with_part, head_with_parts}
 

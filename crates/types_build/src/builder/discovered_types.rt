@@ -2,7 +2,7 @@
 
 ghost use Rattle.std.specs.Prelude.{◌≡◌, Some, nat_eq, slice_get, IfOk, OnOk};
 ghost use Rattle.indexmap.specs.IndexSet.{insert_key};
-ghost use Rattle.types_build.specs.builder.Placed.{AreNumbersPlaced, IsOptionPlaced};
+ghost use Rattle.types_build.specs.builder.PlacedTypes.{AreNumbersPlaced, IsOptionPlaced};
 
 use base_data::model::Memory;
 use base_data::model::list::List;

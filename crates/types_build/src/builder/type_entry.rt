@@ -2,15 +2,15 @@
 
 ghost use Rattle.std.specs.Prelude.{◌<◌, true, List, length, IfOk, OnOk};
 ghost use Rattle.types_spec.specs.declared.types.decl.Decl.{Decl as Declaration};
-ghost use Rattle.types_spec.specs.types.Nodes.{type_at};
+ghost use Rattle.types_spec.specs.types.TypeNodes.{type_at};
 ghost use Rattle.types_table.specs.store.Held.{Grows, AreDistinct};
-ghost use Rattle.types_build.specs.representation.Found.{AreFound};
+ghost use Rattle.types_build.specs.representation.FoundHeads.{AreFound};
 ghost use Rattle.types_build.specs.representation.Representation.{AreNamesAt};
 ghost use Rattle.types_build.specs.builder.Listed.{types_at, AreWithin, IsPlacedEntry, IsEntry};
 
 use crate::builder::discovered_types::DiscoveredTypes;
-use crate::builder::head::placed_head;
-use crate::builder::shape::placed_shape;
+use crate::builder::placed_heads::placed_head;
+use crate::builder::placed_shapes::placed_shape;
 use crate::representation::{FoundHeads, Representation, names_at, representation_with};
 use base_data::model::Memory;
 use std::alloc::Global;

@@ -9,7 +9,7 @@ ghost use Rattle.types_table.specs.store.Instance.{HasNumbers};
 ghost use Rattle.types_build.specs.representation.Representation.{instance_at, HasBlock, HasBlocks};
 ghost use Rattle.types_build.specs.representation.Representation.{IsShapeAt};
 
-use crate::representation::kind::is_float;
+use crate::representation::head_kind::is_float;
 use base_data::model::Memory;
 use base_data::model::list::List;
 use std::alloc::Global;

@@ -6,7 +6,7 @@ ghost use Rattle.types_spec.specs.declared.types.head.TagOf.{TagOf as Tag};
 ghost use Rattle.types_spec.specs.declared.types.head.HeadOf.TheVariants as all_heads;
 ghost use Rattle.types_spec.specs.types.Table.{tag_with_part};
 ghost use Rattle.types_build.specs.representation.Tags.{tags_of_entries, with_tags};
-ghost use Rattle.types_build.specs.representation.Found.{part_number, IsLocation};
+ghost use Rattle.types_build.specs.representation.FoundHeads.{part_number, IsLocation};
 
 use crate::representation::bracket::{Tags, add_tag};
 use base_data::model::Memory;

@@ -2,17 +2,18 @@
 
 ghost use Rattle.std.specs.Prelude.{ℕ, ◌≡◌, ◌<◌, Option, None, length, IfOk, IfSome, OnErr, OnOk};
 ghost use Rattle.std.specs.Prelude.{MatchOption};
-ghost use Rattle.types_spec.specs.types.Nodes.{type_at};
+ghost use Rattle.types_spec.specs.types.TypeNodes.{type_at};
 ghost use Rattle.types_spec.specs.types.Declarations.{unfolded, IsExpanded};
 ghost use Rattle.types_table.specs.store.Held.{Grows};
 ghost use Rattle.types_build.specs.representation.Unfolded.{IsReplaced, IsLeft, HasHeadOf};
-ghost use Rattle.types_build.specs.representation.Way.{AreKnown, IsAbbreviation, IsBare, IsNearer};
+ghost use Rattle.types_build.specs.representation.AbbreviationWay.{AreKnown, IsAbbreviation};
+ghost use Rattle.types_build.specs.representation.AbbreviationWay.{IsBare, IsNearer};
 
-use crate::representation::borrowed::Stored;
 use crate::representation::known_abbreviations::{
     KnownAbbreviations, abbreviation, inspect_at, known_part, none_known,
 };
 use crate::representation::spine::{name, parts};
+use crate::representation::stored::Stored;
 use base_data::model::Memory;
 use std::alloc::Global;
 use types_resolve::scope::SoundEnvironment;

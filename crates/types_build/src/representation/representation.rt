@@ -1,18 +1,18 @@
 //! Computes the representation of the values of a type, by type index.
 
 ghost use Rattle.std.specs.Prelude.{◌≡◌, ◌<◌, length, map, All, IfOk};
-ghost use Rattle.types_spec.specs.types.Nodes.{type_at};
+ghost use Rattle.types_spec.specs.types.TypeNodes.{type_at};
 ghost use Rattle.types_spec.specs.types.Shape.{head_shape};
 ghost use Rattle.types_spec.specs.types.Reached.{parts_of};
 ghost use Rattle.types_table.specs.store.Held.{Grows};
-ghost use Rattle.types_build.specs.representation.Found.{AreFound};
+ghost use Rattle.types_build.specs.representation.FoundHeads.{AreFound};
 ghost use Rattle.types_build.specs.representation.Representation.{head_of_types, hashed};
 ghost use Rattle.types_build.specs.representation.Representation.{IsRepresentationOf, IsShapeAt};
 
 use crate::representation::datatype::datatype_shape;
 use crate::representation::found_heads::FoundHeads;
-use crate::representation::head::head_with;
-use crate::representation::predeclared::predeclared_shape;
+use crate::representation::predeclared_shapes::predeclared_shape;
+use crate::representation::type_heads::head_with;
 use base_data::model::Memory;
 use base_data::model::list::List;
 use indexmap::IndexSet;

@@ -2,10 +2,10 @@
 
 ghost use Rattle.std.specs.Prelude.{◌≡◌, ◌<◌, ◌≤◌, length, map, reverse, All, IfOk, option_copied};
 ghost use Rattle.types_spec.specs.types.Ty.{name_of, parts};
-ghost use Rattle.types_spec.specs.types.Nodes.{type_at};
-ghost use Rattle.types_build.specs.representation.Plain.{root_of};
+ghost use Rattle.types_spec.specs.types.TypeNodes.{type_at};
+ghost use Rattle.types_build.specs.representation.PlainHeads.{root_of};
 
-use crate::representation::borrowed::Stored;
+use crate::representation::stored::Stored;
 use base_data::model::Memory;
 use std::alloc::Global;
 use types_table::store::TypeNode;

@@ -2,7 +2,7 @@
 
 ghost use Rattle.std.specs.Prelude.{◌<◌, Some, length, map, slice_index_or, All, IfOk};
 ghost use Rattle.types_spec.specs.types.Ty.{named};
-ghost use Rattle.types_spec.specs.types.Nodes.{type_at};
+ghost use Rattle.types_spec.specs.types.TypeNodes.{type_at};
 ghost use Rattle.types_spec.specs.types.Predeclared.{sum_at, name_at, applied, member_type};
 ghost use Rattle.types_spec.specs.types.Predeclared.{constr_of, sum_shape};
 ghost use Rattle.types_spec.specs.types.PredeclaredCode.{block_row, sum_row_of};

@@ -1,7 +1,7 @@
 //! Converts shapes over type indices to shapes over types given as trees.
 
 ghost use Rattle.std.specs.Prelude.{◌≡◌, ◌<◌, length, map, All, IfOk, IfSome};
-ghost use Rattle.types_spec.specs.types.Nodes.{type_at};
+ghost use Rattle.types_spec.specs.types.TypeNodes.{type_at};
 ghost use Rattle.types_spec.specs.types.Reached.{named_in};
 ghost use Rattle.types_spec.specs.types.Table.{constr_with, tag_with_parts, with_parts};
 

@@ -3,7 +3,7 @@ use Rattle.std.proofs.Common.{◌≡◌, Some, refl, sym, ap}
 use Rattle.types_parse.specs.grammar.Grammar.{Texpr, single, starred, texpr}
 use Rattle.types_parse.specs.grammar.Depths.{texpr_ends}
 use Rattle.types_parse.proofs.grammar.Stands.{alone as here_alone, texpr_even}
-use Rattle.types_parse.proofs.grammar.TableLemmas.{Reads}
+use Rattle.types_parse.proofs.grammar.TypeGrammarTableLemmas.{Reads}
 use Rattle.types_parse.specs.grammar.Holes.{
   read,
   first_part,

@@ -81,7 +81,7 @@ use Rattle.types_parse.specs.grammar.Depths.{
   group_ends,
   file_ends,
 }
-use Rattle.types_parse.specs.grammar.Machine.{Leads, stop, go}
+use Rattle.types_parse.specs.grammar.TypeMachine.{Leads, stop, go}
 use Rattle.types_parse.proofs.grammar.MachineLemmas.{onward, one_more}
 use Rattle.types_parse.proofs.grammar.Stands.{app_some}
 use Rattle.types_parse.specs.grammar.Holes.{due, read, outside, first_part, whole, alone, step, ended}

@@ -38,7 +38,7 @@ use Rattle.types_parse.specs.grammar.Grammar.{
 }
 use Rattle.types_lex.specs.declared.lexeme.Keyword.TheVariants as keywords
 use Rattle.types_lex.specs.declared.lexeme.Symbol.TheVariants as symbols
-use Rattle.types_parse.proofs.grammar.TableLemmas.{Reads}
+use Rattle.types_parse.proofs.grammar.TypeGrammarTableLemmas.{Reads}
 use Rattle.types_parse.specs.grammar.Holes.{
   read,
   outside,

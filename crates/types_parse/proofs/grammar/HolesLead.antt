@@ -23,7 +23,7 @@ use Rattle.types_parse.specs.grammar.Grammar.{
   Simple,
   Texprs,
   Items,
-  Item,
+  ItemTree,
   single,
   starred,
   simple,
@@ -57,14 +57,14 @@ use Rattle.types_parse.specs.grammar.Depths.{
   items_ends,
   item_ends,
 }
-use Rattle.types_parse.specs.grammar.Machine.{Leads, stop, go}
+use Rattle.types_parse.specs.grammar.TypeMachine.{Leads, stop, go}
 use Rattle.types_parse.specs.grammar.Holes.{
   Outer,
   alone,
   TypeHole,
   PartHole,
   ItemHole,
-  State,
+  HoleState,
   group,
   argument,
   of_tag,
@@ -87,25 +87,25 @@ use Rattle.types_parse.proofs.grammar.MachineLemmas.{onward, one_more, one_deep,
 module _ {W P O : Type 0} where
   -- ---- the state after a tree
 
-  abbrev pub type_read : TypeHole W P → Texpr → State W P O
+  abbrev pub type_read : TypeHole W P → Texpr → HoleState W P O
   type_read h (single a) = read (first_part h) a
   type_read h (starred t a) = read (next_part h t) a
 
-  abbrev pub texprs_read : PartHole W P → Texprs → State W P O
+  abbrev pub texprs_read : PartHole W P → Texprs → HoleState W P O
   texprs_read p (first t) = type_read (group p) t
   texprs_read p (further ts t) = type_read (argument p ts) t
 
-  abbrev pub item_read : ItemHole W P → Item → State W P O
+  abbrev pub item_read : ItemHole W P → ItemTree → HoleState W P O
   item_read h (tag x) = tag_read h x
   item_read h (tag_of x t) = type_read (of_tag h x) t
   item_read h (included a) = read (inclusion h) a
 
-  abbrev pub items_read : PartHole W P → Bool → Items → State W P O
+  abbrev pub items_read : PartHole W P → Bool → Items → HoleState W P O
   items_read p bar (one i) = item_read (first_item p bar) i
   items_read p bar (more before i) = item_read (next_item p bar before) i
 
 module _ {W P O Text : Type 0} (o : Outer W P O Text) where
-  abbrev pub Led : State W P O → Kinds → List ℕ → State W P O → Type 0
+  abbrev pub Led : HoleState W P O → Kinds → List ℕ → HoleState W P O → Type 0
   Led = Leads (step o) ended
 
   -- ---- the next lexeme after a tree
@@ -133,7 +133,7 @@ module _ {W P O Text : Type 0} (o : Outer W P O Text) where
   comma_next p (further ts (single a)) = refl
   comma_next p (further ts (starred t a)) = refl
 
-  bar_after : (h : ItemHole W P) (i : Item) → step o (item_read h i) (kinds.Symbol symbols.Bar)
+  bar_after : (h : ItemHole W P) (i : ItemTree) → step o (item_read h i) (kinds.Symbol symbols.Bar)
       ≡ after_item h i (kinds.Symbol symbols.Bar)
   bar_after h (tag x) = refl
   bar_after h (tag_of x (single a)) = refl
@@ -145,7 +145,7 @@ module _ {W P O Text : Type 0} (o : Outer W P O Text) where
   bar_next p bar (one i) = bar_after (first_item p bar) i
   bar_next p bar (more before i) = bar_after (next_item p bar before) i
 
-  end_after : (h : ItemHole W P) (i : Item) →
+  end_after : (h : ItemHole W P) (i : ItemTree) →
       step o (item_read h i) (kinds.Symbol symbols.CloseBracket)
       ≡ after_item h i (kinds.Symbol symbols.CloseBracket)
   end_after h (tag x) = refl
@@ -211,7 +211,7 @@ module _ {W P O Text : Type 0} (o : Outer W P O Text) where
         onward (onward (items_leads before p bar) (one_more (bar_next p bar before)))
         (item_leads i (next_item p bar before))
 
-    pub item_leads : (i : Item) (h : ItemHole W P) → Led (due (inclusion h)) (item i) (item_ends i)
+    pub item_leads : (i : ItemTree) (h : ItemHole W P) → Led (due (inclusion h)) (item i) (item_ends i)
         (item_read h i)
     item_leads (tag x) h = one_more refl
     item_leads (tag_of x t) h = go refl (omega arith)

@@ -29,7 +29,7 @@ use Rattle.types_parse.specs.grammar.Grammar.{
   App,
   Texprs,
   Items,
-  Item,
+  ItemTree,
   single,
   starred,
   one,
@@ -44,7 +44,7 @@ use Rattle.types_parse.specs.grammar.Grammar.{
   items,
   item,
 }
-use Rattle.types_parse.proofs.grammar.TableLemmas.{Adds}
+use Rattle.types_parse.proofs.grammar.TypeGrammarTableLemmas.{Adds}
 use Rattle.types_parse.specs.grammar.Holes.{
   Outer,
   alone,
@@ -52,7 +52,7 @@ use Rattle.types_parse.specs.grammar.Holes.{
   TypeHole,
   PartHole,
   ItemHole,
-  State,
+  HoleState,
   whole,
   group,
   argument,
@@ -88,7 +88,7 @@ use Rattle.types_parse.specs.grammar.Holes.{
 }
 
 module _ {W P O Text : Type 0} (o : Outer W P O Text) where
-  abbrev pub AddsIf : Kinds → ℕ → LexemeKind → Option (State W P O) → Type 0
+  abbrev pub AddsIf : Kinds → ℕ → LexemeKind → Option (HoleState W P O) → Type 0
   AddsIf before brackets kind next = IfSome next (λ s. Adds (prefix o) (still_open o) before brackets
       kind s)
 
@@ -122,7 +122,7 @@ module _ {W P O Text : Type 0} (o : Outer W P O Text) where
       record { prefixes = simp append_assoc; opens = omega arith }
   after_items_adds p bar all kind = tt
 
-  after_item_adds : (h : ItemHole W P) (i : Item) (kind : LexemeKind) →
+  after_item_adds : (h : ItemHole W P) (i : ItemTree) (kind : LexemeKind) →
       AddsIf (item_prefix o h ++ item i) (item_open o h) kind (after_item h i kind)
   after_item_adds (first_item p bar) i kind =
       rw (append_assoc (part_prefix o p) (mark symbols.OpenBracket ++ bar_if bar) (item i))
@@ -198,7 +198,7 @@ module _ {W P O Text : Type 0} (o : Outer W P O Text) where
     }
     after_tag_adds h x kind = after_item_adds h (tag x) kind
 
-    pub step_adds : (s : State W P O) (kind : LexemeKind) → AddsIf (prefix o s) (still_open o s) kind
+    pub step_adds : (s : HoleState W P O) (kind : LexemeKind) → AddsIf (prefix o s) (still_open o s) kind
         (step o s kind)
     step_adds (due p) kind = begin_adds p kind
     step_adds (read p a) kind = after_part_adds p a kind

@@ -30,7 +30,7 @@ use Rattle.types_parse.specs.grammar.Grammar.{
   Kinds,
   Texpr,
   App,
-  Item,
+  ItemTree,
   single,
   starred,
   simple,
@@ -69,7 +69,7 @@ use Rattle.types_parse.specs.grammar.Holes.{
   TypeHole,
   PartHole,
   ItemHole,
-  State,
+  HoleState,
   whole,
   group,
   argument,
@@ -93,7 +93,7 @@ use Rattle.types_parse.specs.grammar.Holes.{
   closed_item,
 }
 use Rattle.types_parse.proofs.grammar.MachineLemmas.{leads_length}
-use Rattle.types_parse.proofs.grammar.TableLemmas.{Completes}
+use Rattle.types_parse.proofs.grammar.TypeGrammarTableLemmas.{Completes}
 use Rattle.types_parse.proofs.grammar.HolesLead.{items_leads}
 use Rattle.types_parse.specs.grammar.Alone.{end, types}
 use Rattle.types_parse.proofs.grammar.Stands.{
@@ -117,7 +117,7 @@ use Rattle.types_parse.proofs.grammar.Stands.{
 
 module _ {W P O Text : Type 0} (o : Outer W P O Text) (encoded : Text → Kinds) (ends : Text →
     List ℕ) where
-  abbrev pub Completed : State W P O → Type 0
+  abbrev pub Completed : HoleState W P O → Type 0
   Completed = Completes encoded ends (prefix o) ended
 
   module _ (whole_stands : (w : W) (t : Texpr) → Stands (o.prefix_of_type w) (texpr t) (texpr_ends t)
@@ -151,7 +151,7 @@ module _ {W P O Text : Type 0} (o : Outer W P O Text) (encoded : Text → Kinds)
       part_stands (inclusion h) a = item_stands h (included a)
       part_stands (alone q) a = alone_stands q a
 
-      pub item_stands : (h : ItemHole W P) (i : Item) → Stands (item_prefix o h) (item i)
+      pub item_stands : (h : ItemHole W P) (i : ItemTree) → Stands (item_prefix o h) (item i)
           (item_ends i) (encoded (closed_item o h i)) (ends (closed_item o h i))
       item_stands (first_item p bar) i =
           within (followed (mark symbols.CloseBracket) _ refl
@@ -213,7 +213,7 @@ module _ {W P O Text : Type 0} (o : Outer W P O Text) (encoded : Text → Kinds)
               deep_there (app_depth a) s (app_some a) (app_last a);
         }
 
-    pub completes : (s : State W P O) → Completed s
+    pub completes : (s : HoleState W P O) → Completed s
     completes (due p) = let s = part_stands p (simple (variable [])) in
         record {
           text = closed_part o p (simple (variable []));

@@ -37,7 +37,7 @@ use Rattle.types_parse.specs.grammar.Refusals.{
   IsDeep,
   IsTooDeep,
   IsRefusedAsSyntax,
-  Reading,
+  TextReading,
   text_read,
   syntax_at,
   too_deep_at,
@@ -51,9 +51,9 @@ use Rattle.types_parse.specs.grammar.Laws.{
   SyntaxComesFirst,
   HasOneReading,
 }
-use Rattle.types_parse.specs.grammar.Machine.{run}
+use Rattle.types_parse.specs.grammar.TypeMachine.{run}
 use Rattle.types_parse.proofs.grammar.MachineLemmas.{leads_length}
-use Rattle.types_parse.proofs.grammar.TableLemmas.{
+use Rattle.types_parse.proofs.grammar.TypeGrammarTableLemmas.{
   Reads,
   next_lexeme,
   take_whole,
@@ -141,7 +141,7 @@ module _ {Text State : Type 0} {encoded : Text → Kinds} {ends : Text → List 
   -- ---- reading with depths
 
   abbrev Readable : Kinds → Type 0
-  Readable lexemes = (reading : Reading Text) × IsReading encoded ends lexemes reading
+  Readable lexemes = (reading : TextReading Text) × IsReading encoded ends lexemes reading
 
   abbrev ShallowBelow : Kinds → ℕ → Type 0
   ShallowBelow lexemes k = (j : ℕ) → j < k → IsDeep encoded ends lexemes j → ⊥
@@ -219,7 +219,7 @@ module _ {Text State : Type 0} {encoded : Text → Kinds} {ends : Text → List 
       IsSyntax encoded lexemes k → ⊥
   text_excludes lexemes t k e s = no_syntax t k (subst (λ all. IsSyntax encoded all k) (sym e) s)
 
-  one_answer : (lexemes : Kinds) (a b : Reading Text) → IsReading encoded ends lexemes a →
+  one_answer : (lexemes : Kinds) (a b : TextReading Text) → IsReading encoded ends lexemes a →
       IsReading encoded ends lexemes b → b ≡ a
   one_answer lexemes (text_read t) (text_read u) p q =
       ap text_read (one_text r u t (q.encodes ∙ sym p.encodes))

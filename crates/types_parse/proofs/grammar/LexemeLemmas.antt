@@ -6,7 +6,7 @@ use Rattle.types_lex.specs.declared.lexeme.LexemeKind.TheVariants as kinds
 use Rattle.types_lex.specs.declared.lexeme.Suffix.{Suffix}
 use Rattle.types_lex.specs.declared.lexeme.Suffix.TheVariants as suffixes
 use Rattle.types_parse.specs.grammar.Grammar.{Kinds}
-use Rattle.types_parse.specs.grammar.Lexemes.{kinds_of, number, plain_number, number_of}
+use Rattle.types_parse.specs.grammar.LexemeKinds.{kinds_of, number, plain_number, number_of}
 use Rattle.types_parse.specs.grammar.Refusals.{opened, open_after}
 
 pub kinds_length : (lexemes : List Lexeme) → length (kinds_of lexemes) ≡ length lexemes

@@ -20,7 +20,7 @@ use Rattle.std.specs.Prelude.{option_and_then}
 use Rattle.types_lex.specs.declared.lexeme.LexemeKind.{LexemeKind}
 use Rattle.types_parse.specs.grammar.Grammar.{Kinds}
 use Rattle.types_parse.specs.grammar.Depths.{at_last}
-use Rattle.types_parse.specs.grammar.Machine.{run, Leads, stop, go}
+use Rattle.types_parse.specs.grammar.TypeMachine.{run, Leads, stop, go}
 
 module _ {State : Type 0} {step : State → LexemeKind → Option State} {ended : State → ℕ} where
   pub onward : {s m t : State} {xs ys : Kinds} {ds es : List ℕ} → Leads step ended s xs ds m →

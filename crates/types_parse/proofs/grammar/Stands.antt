@@ -40,7 +40,7 @@ use Rattle.types_parse.specs.grammar.Grammar.{
   App,
   Texprs,
   Items,
-  Item,
+  ItemTree,
   simple,
   applied,
   variable,
@@ -185,7 +185,7 @@ texpr_even t = leads_length (texpr_leads types t (whole end))
 pub app_even : (a : App) → length (app_ends a) ≡ length (app a)
 app_even a = leads_length (app_leads types a (first_part (whole end)))
 
-pub item_even : (i : Item) → length (item_ends i) ≡ length (item i)
+pub item_even : (i : ItemTree) → length (item_ends i) ≡ length (item i)
 item_even i = leads_length (item_leads types i (first_item (first_part (whole end)) false))
 
 pub tuple_even : (t : Texpr) → length (texpr_ends t ++ no_end)

@@ -4,23 +4,23 @@ use Rattle.types_parse.specs.grammar.Grammar.{Name, Texpr, App, single, starred,
 use Rattle.types_parse.specs.grammar.Holes.{due, read, name_due, tag_read, outside, first_part, next_part, whole, alone}
 use Rattle.types_parse.specs.grammar.File.{Before, head_of, rest_of, BodyHole, ConstrHole, RecordHole, body_record, inline_record, TypeOutside, body_type, field_type, PartOutside, listed_part, Outside, file_due, decl_due, param_due, param_read, params_read, name_read, body_due, constr_due, upper_read, of_read, field_due, mutable_read, field_named, record_read, FileState, decl_with, variant_with, constr_with, closed_decl, closed_constr, closed_record, closed_outer_part, accepted_outside, file_accepted}
 use Rattle.types_parse.proofs.grammar.HolesLead.{type_read}
-use Rattle.types_spec.specs.types.Nodes.{type_of, AreOrdered}
+use Rattle.types_spec.specs.types.TypeNodes.{type_of, AreOrdered}
 use Rattle.types_spec.specs.declared.types.ty.TypeTreeNode.{TypeTreeNode}
 use Rattle.types_spec.specs.declared.types.decl.Arguments.TheVariants as arguments
 use Rattle.types_spec.specs.declared.types.decl.Body.TheVariants as bodies
 use Rattle.types_spec.specs.declared.types.decl.Decl.{Decl}
-use Rattle.types_parse.specs.parse.Written.{type_of_app, fields_of_tree, constructor_of_tree, declarations_of}
+use Rattle.types_parse.specs.parse.WrittenTrees.{type_of_app, fields_of_tree, constructor_of_tree, declarations_of}
 use Rattle.types_parse.specs.declared.parse.open.OpenConstruct.{OpenConstruct}
 use Rattle.types_parse.specs.declared.parse.open.ParsePhase.{ParsePhase}
-use Rattle.types_parse.specs.declared.parse.so_far.FilePhase.{FilePhase}
-use Rattle.types_parse.specs.declared.parse.so_far.FilePhase.TheVariants as files
+use Rattle.types_parse.specs.declared.parse.declarations_so_far.FilePhase.{FilePhase}
+use Rattle.types_parse.specs.declared.parse.declarations_so_far.FilePhase.TheVariants as files
 use Rattle.types_parse.specs.parse.TypeCode.{whole_code}
 use Rattle.types_parse.specs.parse.TypeShown.{Bottom, at_type, at_part}
 use Rattle.types_parse.specs.parse.FileCode.{more_decls, decl_code, constr_code, closed_constr_code, closed_record_code, closed_type_code, in_type_whole, file_whole_code}
-use Rattle.types_parse.specs.declared.parse.so_far.Around.{Around}
+use Rattle.types_parse.specs.declared.parse.declarations_so_far.Around.{Around}
 use Rattle.types_parse.specs.parse.FileShown.{IsReadable, row_list, group_of, declared_of, constructors_of, record_of, around_of, phase_of, IsInType, file_shown}
-use Rattle.types_parse.proofs.parse.WholeLemmas.{may_end, IsAllAt, Ends, whole_ends}
-use Rattle.types_parse.proofs.parse.StepLemmas.{in_type_is}
+use Rattle.types_parse.proofs.parse.ParserWholeLemmas.{may_end, IsAllAt, Ends, whole_ends}
+use Rattle.types_parse.proofs.parse.ParserStepLemmas.{in_type_is}
 use Rattle.types_parse.proofs.parse.WrittenLemmas.{row_map, group_ends}
 
 abbrev pub EndsFile : Option FileTree → Option (List Decl) → Type 0

@@ -7,17 +7,17 @@ use Rattle.types_parse.specs.grammar.Refusals.{opened, IsTooDeep, IsRefusedAsSyn
 use Rattle.types_parse.specs.grammar.Holes.{step}
 use Rattle.types_parse.specs.grammar.File.{FileState, declarations, file_accepted}
 use Rattle.types_parse.proofs.grammar.FileTable.{file_table}
-use Rattle.types_parse.proofs.grammar.ReachedLemmas.{Reached, Moved, reached_first, refused_syntax, refused_end, read_whole, refused_deep, reached_next}
+use Rattle.types_parse.proofs.grammar.TypeGrammarReachedLemmas.{Reached, Moved, reached_first, refused_syntax, refused_end, read_whole, refused_deep, reached_next}
 use Rattle.types_spec.specs.declared.types.ty.TypeTreeNode.{TypeTreeNode}
 use Rattle.types_spec.specs.declared.types.decl.Decl.{Decl}
-use Rattle.types_parse.specs.parse.Written.{declarations_of}
+use Rattle.types_parse.specs.parse.WrittenTrees.{declarations_of}
 use Rattle.types_parse.specs.parse.Parsed.{AreDeclarationsOf}
 use Rattle.types_parse.specs.declared.parse.open.OpenConstruct.{OpenConstruct}
-use Rattle.types_parse.specs.declared.parse.so_far.FilePhase.{FilePhase}
-use Rattle.types_parse.specs.declared.parse.so_far.FilePhase.TheVariants as files
+use Rattle.types_parse.specs.declared.parse.declarations_so_far.FilePhase.{FilePhase}
+use Rattle.types_parse.specs.declared.parse.declarations_so_far.FilePhase.TheVariants as files
 use Rattle.types_parse.specs.parse.FileCode.{FileStep, file_step_code, file_depth_code, file_whole_code, FileStepIs}
 use Rattle.types_parse.specs.parse.FileShown.{file_shown, IsReadable}
-use Rattle.types_parse.proofs.parse.FileLemmas.{FollowsFile, file_follows, file_depth_follows}
+use Rattle.types_parse.proofs.parse.ParserFileLemmas.{FollowsFile, file_follows, file_depth_follows}
 use Rattle.types_parse.proofs.parse.FileEnd.{EndsFile, file_ends_follow}
 
 abbrev pub FileReached : Kinds → List TypeTreeNode → List OpenConstruct → FilePhase → ℕ → ℕ → Type 0

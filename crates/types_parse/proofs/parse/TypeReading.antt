@@ -7,11 +7,11 @@ use Rattle.types_parse.specs.grammar.Refusals.{opened, IsTooDeep, IsRefusedAsSyn
 use Rattle.types_parse.specs.grammar.Holes.{whole, first_part, next_part, alone, read, step, outside}
 use Rattle.types_parse.specs.grammar.Alone.{End, end, Nowhere, TypeState, types, type_accepted}
 use Rattle.types_parse.proofs.grammar.AloneTable.{type_table, accepts}
-use Rattle.types_parse.proofs.grammar.ReachedLemmas.{Reached, Moved, reached_first, refused_syntax, refused_end, read_whole, refused_deep, reached_next}
-use Rattle.types_spec.specs.types.Nodes.{type_of, AreOrdered}
-use Rattle.types_spec.proofs.types.NodeLemmas.{AreOrdered-none}
+use Rattle.types_parse.proofs.grammar.TypeGrammarReachedLemmas.{Reached, Moved, reached_first, refused_syntax, refused_end, read_whole, refused_deep, reached_next}
+use Rattle.types_spec.specs.types.TypeNodes.{type_of, AreOrdered}
+use Rattle.types_spec.proofs.types.TypeNodeLemmas.{AreOrdered-none}
 use Rattle.types_spec.specs.declared.types.ty.TypeTreeNode.{TypeTreeNode}
-use Rattle.types_parse.specs.parse.Written.{type_of_texpr}
+use Rattle.types_parse.specs.parse.WrittenTrees.{type_of_texpr}
 use Rattle.types_parse.specs.parse.Parsed.{IsTypeOf}
 use Rattle.types_parse.specs.declared.parse.open.OpenConstruct.{OpenConstruct}
 use Rattle.types_parse.specs.declared.parse.open.ParsePhase.{ParsePhase}
@@ -20,8 +20,8 @@ use Rattle.types_parse.specs.declared.parse.open.TypeStep.{TypeStep}
 use Rattle.types_parse.specs.declared.parse.open.TypeStep.TheVariants as steps
 use Rattle.types_parse.specs.parse.TypeCode.{StepCode, step_code, depth_code, whole_code, StepIs}
 use Rattle.types_parse.specs.parse.TypeShown.{Bottom, at_type, type_shown}
-use Rattle.types_parse.proofs.parse.TypeLemmas.{Follows, step_follows, depth_follows}
-use Rattle.types_parse.proofs.parse.WholeLemmas.{may_end, Ends, whole_ends}
+use Rattle.types_parse.proofs.parse.ParserTypeLemmas.{Follows, step_follows, depth_follows}
+use Rattle.types_parse.proofs.parse.ParserWholeLemmas.{may_end, Ends, whole_ends}
 
 abbrev bottom : Bottom End Nowhere
 bottom = at_type end

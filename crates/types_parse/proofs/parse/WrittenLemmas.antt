@@ -3,7 +3,7 @@ use Rattle.std.proofs.Common.{◌≡◌, ◌∙◌, Bool, List, [], ◌∷◌, �
 use Rattle.types_parse.specs.grammar.Grammar.{DeclTree, GroupTree}
 use Rattle.types_parse.specs.grammar.File.{Before, nothing, so_far, head_of, rest_of, GroupHole, group_with}
 use Rattle.types_spec.specs.declared.types.decl.Decl.{Decl}
-use Rattle.types_parse.specs.parse.Written.{declaration_of_tree, with_group, declarations_after, declarations_of}
+use Rattle.types_parse.specs.parse.WrittenTrees.{declaration_of_tree, with_group, declarations_after, declarations_of}
 use Rattle.types_parse.specs.parse.FileShown.{row_list, group_of}
 
 pub row_more : {X : Type 0} (b : Before X) (x : X) → head_of b x ∷ rest_of b x ≡ row_list b

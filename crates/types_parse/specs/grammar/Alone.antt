@@ -1,7 +1,8 @@
 -- The grammar of a type expression by itself, with nothing around it.
 use Rattle.std.specs.Prelude.{Option, Some, None, []}
 use Rattle.types_parse.specs.grammar.Grammar.{Texpr, single, starred}
-use Rattle.types_parse.specs.grammar.Holes.{Outer, State, due, read, first_part, next_part, whole}
+use Rattle.types_parse.specs.grammar.Holes.{Outer, HoleState, due, read, first_part, next_part}
+use Rattle.types_parse.specs.grammar.Holes.{whole}
 
 pub data End : Type 0 where
   end : End
@@ -9,7 +10,7 @@ pub data End : Type 0 where
 pub data Nowhere : Type 0 where
 
 abbrev pub TypeState : Type 0
-TypeState = State End Nowhere Nowhere
+TypeState = HoleState End Nowhere Nowhere
 
 abbrev pub nowhere : {X : Type 0} → Nowhere → X
 nowhere q = elim q [ ]

@@ -5,7 +5,8 @@ use Rattle.types_lex.specs.declared.lexeme.Keyword.TheVariants as keywords
 use Rattle.types_lex.specs.declared.lexeme.Symbol.TheVariants as symbols
 use Rattle.types_parse.specs.grammar.Grammar.{App, ArgumentsTree, BodyTree, ConstrTree, DeclTree}
 use Rattle.types_parse.specs.grammar.Grammar.{FieldTree}
-use Rattle.types_parse.specs.grammar.Grammar.{FileTree, GroupTree, Item, Items, Kinds, RecordTree}
+use Rattle.types_parse.specs.grammar.Grammar.{FileTree, GroupTree, ItemTree, Items, Kinds}
+use Rattle.types_parse.specs.grammar.Grammar.{RecordTree}
 use Rattle.types_parse.specs.grammar.Grammar.{Simple}
 use Rattle.types_parse.specs.grammar.Grammar.{Texpr, Texprs, applied, arguments, bar_if, bracket}
 use Rattle.types_parse.specs.grammar.Grammar.{first}
@@ -47,7 +48,7 @@ abbrev mutual
   items_depth (one i) = item_depth i
   items_depth (more all i) = max (items_depth all) (item_depth i)
 
-  pub item_depth : Item → ℕ
+  pub item_depth : ItemTree → ℕ
   item_depth (tag name) = 0
   item_depth (tag_of name t) = texpr_depth t
   item_depth (included a) = app_depth a
@@ -92,7 +93,7 @@ abbrev mutual
   items_ends (one i) = item_ends i
   items_ends (more all i) = items_ends all ++ no_end ++ item_ends i
 
-  pub item_ends : Item → List ℕ
+  pub item_ends : ItemTree → List ℕ
   item_ends (tag name) = no_end
   item_ends (tag_of name t) = no_end ++ no_end ++ texpr_ends t
   item_ends (included a) = app_ends a

@@ -46,7 +46,7 @@ use Rattle.types_parse.specs.grammar.Grammar.{
 }
 use Rattle.types_parse.specs.grammar.Holes.{
   Outer,
-  State,
+  HoleState,
   due,
   read,
   outside,
@@ -123,7 +123,7 @@ pub data Outside : Type 0 where
   record_read : RecordHole → RecordTree → Outside
 
 abbrev pub FileState : Type 0
-FileState = State TypeOutside PartOutside Outside
+FileState = HoleState TypeOutside PartOutside Outside
 
 -- ---- trees of constructs that end here
 

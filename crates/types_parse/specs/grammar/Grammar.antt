@@ -42,13 +42,13 @@ mutual
 
   -- item { "|" item }
   pub data Items : Type 0 where
-    one : Item → Items
-    more : Items → Item → Items
+    one : ItemTree → Items
+    more : Items → ItemTree → Items
 
-  pub data Item : Type 0 where
-    tag : Name → Item
-    tag_of : Name → Texpr → Item
-    included : App → Item
+  pub data ItemTree : Type 0 where
+    tag : Name → ItemTree
+    tag_of : Name → Texpr → ItemTree
+    included : App → ItemTree
 
 -- ---- the lexemes of a tree
 
@@ -91,7 +91,7 @@ abbrev mutual
   items (one i) = item i
   items (more all i) = items all ++ mark symbols.Bar ++ item i
 
-  pub item : Item → Kinds
+  pub item : ItemTree → Kinds
   item (tag name) = kinds.Tag name ∷ []
   item (tag_of name t) = kinds.Tag name ∷ kinds.Keyword keywords.Of ∷ texpr t
   item (included a) = app a

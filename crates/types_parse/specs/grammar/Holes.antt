@@ -13,7 +13,7 @@ use Rattle.types_parse.specs.grammar.Grammar.{
   App,
   Texprs,
   Items,
-  Item,
+  ItemTree,
   single,
   starred,
   simple,
@@ -59,20 +59,20 @@ mutual
     first_item : PartHole W P → Bool → ItemHole W P
     next_item : PartHole W P → Bool → Items → ItemHole W P
 
-pub data State (W P O : Type 0) : Type 0 where
-  due : PartHole W P → State W P O
-  read : PartHole W P → App → State W P O
+pub data HoleState (W P O : Type 0) : Type 0 where
+  due : PartHole W P → HoleState W P O
+  read : PartHole W P → App → HoleState W P O
   -- The state after the parenthesis that closes several arguments.
-  name_due : PartHole W P → Texprs → Texpr → State W P O
-  tag_read : ItemHole W P → Name → State W P O
-  outside : O → State W P O
+  name_due : PartHole W P → Texprs → Texpr → HoleState W P O
+  tag_read : ItemHole W P → Name → HoleState W P O
+  outside : O → HoleState W P O
 
 -- The grammar outside of types: the steps, the lexemes read, the open brackets and the closed
 -- texts.
 pub record Outer (W P O Text : Type 0) : Type 0 where
-  pub type_step : W → Texpr → LexemeKind → Option (State W P O)
-  pub part_step : P → App → LexemeKind → Option (State W P O)
-  pub outside_step : O → LexemeKind → Option (State W P O)
+  pub type_step : W → Texpr → LexemeKind → Option (HoleState W P O)
+  pub part_step : P → App → LexemeKind → Option (HoleState W P O)
+  pub outside_step : O → LexemeKind → Option (HoleState W P O)
   pub prefix_of_type : W → Kinds
   pub prefix_of_part : P → Kinds
   pub prefix_of_outside : O → Kinds
@@ -93,30 +93,30 @@ module _ {W P : Type 0} where
 module _ {W P O : Type 0} where
   -- ---- the table
 
-  abbrev pub begin_item : PartHole W P → LexemeKind → Option (State W P O)
+  abbrev pub begin_item : PartHole W P → LexemeKind → Option (HoleState W P O)
   begin_item (inclusion h) (kinds.Tag x) = Some (tag_read h x)
   begin_item (inclusion (first_item p false)) (kinds.Symbol symbols.Bar) =
       Some (due (inclusion (first_item p true)))
   begin_item p kind = None
 
-  abbrev pub begin : PartHole W P → LexemeKind → Option (State W P O)
+  abbrev pub begin : PartHole W P → LexemeKind → Option (HoleState W P O)
   begin p (kinds.Variable x) = Some (read p (simple (variable x)))
   begin p (kinds.Lower x) = Some (read p (simple (named x)))
   begin p (kinds.Symbol symbols.OpenParen) = Some (due (first_part (group p)))
   begin p (kinds.Symbol symbols.OpenBracket) = Some (due (inclusion (first_item p false)))
   begin p kind = begin_item p kind
 
-  abbrev pub after_items : PartHole W P → Bool → Items → LexemeKind → Option (State W P O)
+  abbrev pub after_items : PartHole W P → Bool → Items → LexemeKind → Option (HoleState W P O)
   after_items p bar all (kinds.Symbol symbols.Bar) = Some (due (inclusion (next_item p bar all)))
   after_items p bar all (kinds.Symbol symbols.CloseBracket) =
       Some (read p (simple (bracket bar all)))
   after_items p bar all kind = None
 
-  abbrev pub after_item : ItemHole W P → Item → LexemeKind → Option (State W P O)
+  abbrev pub after_item : ItemHole W P → ItemTree → LexemeKind → Option (HoleState W P O)
   after_item (first_item p bar) i kind = after_items p bar (one i) kind
   after_item (next_item p bar before) i kind = after_items p bar (more before i) kind
 
-  abbrev pub ended : State W P O → ℕ
+  abbrev pub ended : HoleState W P O → ℕ
   ended (due p) = 0
   ended (read p a) = part_ended p a
   ended (name_due p ts t) = 0
@@ -124,7 +124,7 @@ module _ {W P O : Type 0} where
   ended (outside q) = 0
 
 module _ {W P O Text : Type 0} (o : Outer W P O Text) where
-  abbrev pub close_type : TypeHole W P → Texpr → LexemeKind → Option (State W P O)
+  abbrev pub close_type : TypeHole W P → Texpr → LexemeKind → Option (HoleState W P O)
   close_type (group p) t (kinds.Symbol symbols.CloseParen) = Some (read p (simple (grouped t)))
   close_type (group p) t (kinds.Symbol symbols.Comma) =
       Some (due (first_part (argument p (first t))))
@@ -135,29 +135,29 @@ module _ {W P O Text : Type 0} (o : Outer W P O Text) where
   close_type (whole w) t kind = o.type_step w t kind
   close_type h t kind = None
 
-  abbrev pub after_type : TypeHole W P → Texpr → LexemeKind → Option (State W P O)
+  abbrev pub after_type : TypeHole W P → Texpr → LexemeKind → Option (HoleState W P O)
   after_type h t (kinds.Symbol symbols.Star) = Some (due (next_part h t))
   after_type h t kind = close_type h t kind
 
-  abbrev pub close_part : PartHole W P → App → LexemeKind → Option (State W P O)
+  abbrev pub close_part : PartHole W P → App → LexemeKind → Option (HoleState W P O)
   close_part (first_part h) a kind = after_type h (single a) kind
   close_part (next_part h t) a kind = after_type h (starred t a) kind
   close_part (inclusion h) a kind = after_item h (included a) kind
   close_part (alone q) a kind = o.part_step q a kind
 
-  abbrev pub after_part : PartHole W P → App → LexemeKind → Option (State W P O)
+  abbrev pub after_part : PartHole W P → App → LexemeKind → Option (HoleState W P O)
   after_part p a (kinds.Lower x) = Some (read p (applied a x))
   after_part p a kind = close_part p a kind
 
-  abbrev pub take_name : PartHole W P → Texprs → Texpr → LexemeKind → Option (State W P O)
+  abbrev pub take_name : PartHole W P → Texprs → Texpr → LexemeKind → Option (HoleState W P O)
   take_name p ts t (kinds.Lower x) = Some (read p (simple (arguments ts t x)))
   take_name p ts t kind = None
 
-  abbrev pub after_tag : ItemHole W P → Name → LexemeKind → Option (State W P O)
+  abbrev pub after_tag : ItemHole W P → Name → LexemeKind → Option (HoleState W P O)
   after_tag h x (kinds.Keyword keywords.Of) = Some (due (first_part (of_tag h x)))
   after_tag h x kind = after_item h (tag x) kind
 
-  abbrev pub step : State W P O → LexemeKind → Option (State W P O)
+  abbrev pub step : HoleState W P O → LexemeKind → Option (HoleState W P O)
   step (due p) kind = begin p kind
   step (read p a) kind = after_part p a kind
   step (name_due p ts t) kind = take_name p ts t kind
@@ -185,7 +185,7 @@ module _ {W P O Text : Type 0} (o : Outer W P O Text) where
     item_prefix (next_item p bar before) = part_prefix p ++ (mark symbols.OpenBracket ++ bar_if bar
         ++ (items before ++ mark symbols.Bar))
 
-  abbrev pub prefix : State W P O → Kinds
+  abbrev pub prefix : HoleState W P O → Kinds
   prefix (due p) = part_prefix p
   prefix (read p a) = part_prefix p ++ app a
   prefix (name_due p ts t) = part_prefix p ++ (mark symbols.OpenParen ++ texprs ts
@@ -211,7 +211,7 @@ module _ {W P O Text : Type 0} (o : Outer W P O Text) where
     item_open (first_item p bar) = suc (part_open p)
     item_open (next_item p bar before) = suc (part_open p)
 
-  abbrev pub still_open : State W P O → ℕ
+  abbrev pub still_open : HoleState W P O → ℕ
   still_open (due p) = part_open p
   still_open (read p a) = part_open p
   still_open (name_due p ts t) = part_open p
@@ -233,6 +233,6 @@ module _ {W P O Text : Type 0} (o : Outer W P O Text) where
     closed_part (inclusion h) a = closed_item h (included a)
     closed_part (alone q) a = o.closed_round_part q a
 
-    pub closed_item : ItemHole W P → Item → Text
+    pub closed_item : ItemHole W P → ItemTree → Text
     closed_item (first_item p bar) i = closed_part p (simple (bracket bar (one i)))
     closed_item (next_item p bar before) i = closed_part p (simple (bracket bar (more before i)))

@@ -1,7 +1,7 @@
 -- Laws of a grammar, for any type of trees.
 use Rattle.std.specs.Prelude.{ℕ, ◌<◌, ◌≡◌, ◌⊎◌, List, length}
 use Rattle.types_parse.specs.grammar.Grammar.{Kinds}
-use Rattle.types_parse.specs.grammar.Refusals.{IsSyntax, IsDeep, Reading, IsReading}
+use Rattle.types_parse.specs.grammar.Refusals.{IsSyntax, IsDeep, TextReading, IsReading}
 
 module _ {Text : Type 0} (encoded : Text → Kinds) where
   -- At most one tree has a given list of lexemes.
@@ -34,5 +34,5 @@ module _ {Text : Type 0} (encoded : Text → Kinds) (ends : Text → List ℕ) w
   abbrev pub HasOneReading : Type 0
   HasOneReading =
       (lexemes : Kinds) →
-      (r : Reading Text) × IsReading encoded ends lexemes r
-      × ((other : Reading Text) → IsReading encoded ends lexemes other → other ≡ r)
+      (r : TextReading Text) × IsReading encoded ends lexemes r
+      × ((other : TextReading Text) → IsReading encoded ends lexemes other → other ≡ r)

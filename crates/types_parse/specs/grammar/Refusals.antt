@@ -85,13 +85,13 @@ module _ {Text : Type 0} (encoded : Text → Kinds) (ends : Text → List ℕ) w
 
 -- The text, or the index of the lexeme with the error. If the error is at the end, the index is the
 -- number of lexemes.
-pub data Reading (Text : Type 0) : Type 0 where
-  text_read : Text → Reading Text
-  syntax_at : ℕ → Reading Text
-  too_deep_at : ℕ → Reading Text
+pub data TextReading (Text : Type 0) : Type 0 where
+  text_read : Text → TextReading Text
+  syntax_at : ℕ → TextReading Text
+  too_deep_at : ℕ → TextReading Text
 
 module _ {Text : Type 0} (encoded : Text → Kinds) (ends : Text → List ℕ) where
-  abbrev pub IsReading : Kinds → Reading Text → Type 0
+  abbrev pub IsReading : Kinds → TextReading Text → Type 0
   IsReading lexemes (text_read text) = IsText encoded ends lexemes text
   IsReading lexemes (syntax_at k) = IsRefusedAsSyntax encoded ends lexemes k
   IsReading lexemes (too_deep_at k) = IsTooDeep encoded ends lexemes k

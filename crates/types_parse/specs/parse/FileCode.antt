@@ -6,7 +6,7 @@ use Rattle.types_lex.specs.declared.lexeme.LexemeKind.TheVariants as kinds
 use Rattle.types_lex.specs.declared.lexeme.Keyword.TheVariants as keywords
 use Rattle.types_lex.specs.declared.lexeme.Symbol.TheVariants as symbols
 use Rattle.types_spec.specs.types.Ty.{Ty}
-use Rattle.types_spec.specs.types.Nodes.{type_of}
+use Rattle.types_spec.specs.types.TypeNodes.{type_of}
 use Rattle.types_spec.specs.declared.types.ty.TypeTreeNode.{TypeTreeNode}
 use Rattle.types_spec.specs.declared.types.decl.Field.{Field}
 use Rattle.types_spec.specs.declared.types.decl.Arguments.{Arguments}
@@ -19,16 +19,16 @@ use Rattle.types_parse.specs.declared.parse.open.OpenConstruct.{OpenConstruct}
 use Rattle.types_parse.specs.declared.parse.open.ParsePhase.TheVariants as phases
 use Rattle.types_parse.specs.declared.parse.open.TypeStep.{TypeStep}
 use Rattle.types_parse.specs.declared.parse.open.TypeStep.TheVariants as steps
-use Rattle.types_parse.specs.declared.parse.so_far.Group.{Group}
-use Rattle.types_parse.specs.declared.parse.so_far.Declared.{Declared}
-use Rattle.types_parse.specs.declared.parse.so_far.Constructors.{Constructors}
-use Rattle.types_parse.specs.declared.parse.so_far.RecordOf.{RecordOf}
-use Rattle.types_parse.specs.declared.parse.so_far.RecordOf.TheVariants as positions
-use Rattle.types_parse.specs.declared.parse.so_far.Fields.{Fields}
-use Rattle.types_parse.specs.declared.parse.so_far.Around.{Around}
-use Rattle.types_parse.specs.declared.parse.so_far.Around.TheVariants as arounds
-use Rattle.types_parse.specs.declared.parse.so_far.FilePhase.{FilePhase}
-use Rattle.types_parse.specs.declared.parse.so_far.FilePhase.TheVariants as files
+use Rattle.types_parse.specs.declared.parse.declarations_so_far.Group.{Group}
+use Rattle.types_parse.specs.declared.parse.declarations_so_far.Declared.{Declared}
+use Rattle.types_parse.specs.declared.parse.declarations_so_far.Constructors.{Constructors}
+use Rattle.types_parse.specs.declared.parse.declarations_so_far.RecordOf.{RecordOf}
+use Rattle.types_parse.specs.declared.parse.declarations_so_far.RecordOf.TheVariants as positions
+use Rattle.types_parse.specs.declared.parse.declarations_so_far.Fields.{Fields}
+use Rattle.types_parse.specs.declared.parse.declarations_so_far.Around.{Around}
+use Rattle.types_parse.specs.declared.parse.declarations_so_far.Around.TheVariants as arounds
+use Rattle.types_parse.specs.declared.parse.declarations_so_far.FilePhase.{FilePhase}
+use Rattle.types_parse.specs.declared.parse.declarations_so_far.FilePhase.TheVariants as files
 use Rattle.types_parse.specs.parse.TypeCode.{StepCode, goes, ended, stops, begin_code, step_code}
 use Rattle.types_parse.specs.parse.TypeCode.{depth_code}
 use Rattle.types_parse.specs.parse.TypeCode.{whole_code}

@@ -34,26 +34,26 @@ use Rattle.types_parse.specs.grammar.File.{
   record_read,
   FileState,
 }
-use Rattle.types_spec.specs.types.Nodes.{AreOrdered}
+use Rattle.types_spec.specs.types.TypeNodes.{AreOrdered}
 use Rattle.types_spec.specs.declared.types.ty.TypeTreeNode.{TypeTreeNode}
-use Rattle.types_parse.specs.parse.Written.{type_of_app, parameters_of, field_of_tree}
-use Rattle.types_parse.specs.parse.Written.{fields_of_tree}
-use Rattle.types_parse.specs.parse.Written.{constructor_of_tree, declaration_of_tree}
-use Rattle.types_parse.specs.parse.Written.{declarations_of}
+use Rattle.types_parse.specs.parse.WrittenTrees.{type_of_app, parameters_of, field_of_tree}
+use Rattle.types_parse.specs.parse.WrittenTrees.{fields_of_tree}
+use Rattle.types_parse.specs.parse.WrittenTrees.{constructor_of_tree, declaration_of_tree}
+use Rattle.types_parse.specs.parse.WrittenTrees.{declarations_of}
 use Rattle.types_parse.specs.declared.parse.open.OpenConstruct.{OpenConstruct}
 use Rattle.types_parse.specs.declared.parse.open.ParsePhase.{ParsePhase}
 use Rattle.types_parse.specs.declared.parse.open.TypeStep.{TypeStep}
 use Rattle.types_parse.specs.declared.parse.open.TypeStep.TheVariants as steps
-use Rattle.types_parse.specs.declared.parse.so_far.Group.{Group}
-use Rattle.types_parse.specs.declared.parse.so_far.Declared.{Declared}
-use Rattle.types_parse.specs.declared.parse.so_far.Constructors.{Constructors}
-use Rattle.types_parse.specs.declared.parse.so_far.RecordOf.{RecordOf}
-use Rattle.types_parse.specs.declared.parse.so_far.RecordOf.TheVariants as positions
-use Rattle.types_parse.specs.declared.parse.so_far.Fields.{Fields}
-use Rattle.types_parse.specs.declared.parse.so_far.Around.{Around}
-use Rattle.types_parse.specs.declared.parse.so_far.Around.TheVariants as arounds
-use Rattle.types_parse.specs.declared.parse.so_far.FilePhase.{FilePhase}
-use Rattle.types_parse.specs.declared.parse.so_far.FilePhase.TheVariants as files
+use Rattle.types_parse.specs.declared.parse.declarations_so_far.Group.{Group}
+use Rattle.types_parse.specs.declared.parse.declarations_so_far.Declared.{Declared}
+use Rattle.types_parse.specs.declared.parse.declarations_so_far.Constructors.{Constructors}
+use Rattle.types_parse.specs.declared.parse.declarations_so_far.RecordOf.{RecordOf}
+use Rattle.types_parse.specs.declared.parse.declarations_so_far.RecordOf.TheVariants as positions
+use Rattle.types_parse.specs.declared.parse.declarations_so_far.Fields.{Fields}
+use Rattle.types_parse.specs.declared.parse.declarations_so_far.Around.{Around}
+use Rattle.types_parse.specs.declared.parse.declarations_so_far.Around.TheVariants as arounds
+use Rattle.types_parse.specs.declared.parse.declarations_so_far.FilePhase.{FilePhase}
+use Rattle.types_parse.specs.declared.parse.declarations_so_far.FilePhase.TheVariants as files
 use Rattle.types_parse.specs.parse.TypeShown.{Bottom, at_type, at_part, type_shown}
 
 -- The items of a list with separators that were read so far.

@@ -5,7 +5,7 @@ use Rattle.types_parse.specs.grammar.Grammar.{Kinds, Texpr, texpr, FileTree, fil
 use Rattle.types_parse.specs.grammar.Depths.{texpr_ends, file_ends}
 use Rattle.types_parse.specs.grammar.Refusals.{IsText, syntax_at, too_deep_at, IsReading}
 use Rattle.types_spec.specs.types.Ty.{Ty}
-use Rattle.types_parse.specs.parse.Written.{type_of_texpr, declarations_of}
+use Rattle.types_parse.specs.parse.WrittenTrees.{type_of_texpr, declarations_of}
 use Rattle.types_spec.specs.declared.types.decl.Decl.{Decl}
 use Rattle.types_parse.specs.declared.parse.refused.ParseFault.{ParseFault}
 use Rattle.types_parse.specs.declared.parse.refused.ParseFault.TheVariants as faults

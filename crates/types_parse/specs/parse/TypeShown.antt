@@ -5,15 +5,16 @@ use Rattle.types_parse.specs.grammar.Grammar.{Texprs, Items}
 use Rattle.types_parse.specs.grammar.Grammar as trees
 use Rattle.types_parse.specs.grammar.Depths.{texpr_depth, part_depth, app_depth, texprs_depth}
 use Rattle.types_parse.specs.grammar.Depths.{items_depth}
-use Rattle.types_parse.specs.grammar.Holes.{TypeHole, PartHole, ItemHole, State, whole, group}
+use Rattle.types_parse.specs.grammar.Holes.{TypeHole, PartHole, ItemHole, HoleState, whole, group}
 use Rattle.types_parse.specs.grammar.Holes.{argument}
 use Rattle.types_parse.specs.grammar.Holes.{of_tag, first_part, next_part, inclusion, alone}
 use Rattle.types_parse.specs.grammar.Holes.{first_item}
 use Rattle.types_parse.specs.grammar.Holes.{next_item, due, read, name_due, tag_read}
 use Rattle.types_spec.specs.types.Ty.{Ty, bracket}
-use Rattle.types_spec.specs.types.Nodes.{type_at, types_of}
+use Rattle.types_spec.specs.types.TypeNodes.{type_at, types_of}
 use Rattle.types_spec.specs.declared.types.ty.TypeTreeNode.{TypeTreeNode}
-use Rattle.types_parse.specs.parse.Written.{type_of_texpr, tuple_of, type_of_app, type_of_items}
+use Rattle.types_parse.specs.parse.WrittenTrees.{type_of_texpr, tuple_of, type_of_app}
+use Rattle.types_parse.specs.parse.WrittenTrees.{type_of_items}
 use Rattle.types_parse.specs.declared.parse.open.OpenPart.{OpenPart}
 use Rattle.types_parse.specs.declared.parse.open.OpenConstruct.{OpenConstruct}
 use Rattle.types_parse.specs.declared.parse.open.OpenConstruct.TheVariants as frames
@@ -94,7 +95,8 @@ module _ {W P : Type 0} where
       item_frames h ns fs = ⊥
 
 module _ {W P O : Type 0} (b : Bottom W P) where
-  abbrev pub type_shown : List TypeTreeNode → List OpenConstruct → ParsePhase → State W P O → Type 0
+  abbrev pub type_shown : List TypeTreeNode → List OpenConstruct → ParsePhase → HoleState W P O
+      → Type 0
   type_shown ns fs phases.Due (due p) = part_frames b p ns fs
   type_shown ns fs (phases.Read r) (read p a) = HasLast ns (type_of_app a) (app_depth a) r
       × part_frames b p ns fs

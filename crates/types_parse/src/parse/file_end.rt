@@ -1,7 +1,7 @@
 //! The last step of the file parser, after the last lexeme of the file.
 
 ghost use Rattle.std.specs.Prelude.{◌≡◌, IfOk};
-ghost use Rattle.types_parse.specs.declared.parse.so_far.FilePhase.TheVariants as files;
+ghost use Rattle.types_parse.specs.declared.parse.declarations_so_far.FilePhase.TheVariants as files;
 ghost use Rattle.types_parse.specs.parse.TypeCode.{whole_code};
 ghost use Rattle.types_parse.specs.parse.FileCode.{more_decls, decl_code, closed_constr_code};
 ghost use Rattle.types_parse.specs.parse.FileCode.{closed_record_code, closed_type_code};
@@ -9,10 +9,12 @@ ghost use Rattle.types_parse.specs.parse.FileCode.{in_type_whole};
 ghost use Rattle.types_parse.specs.parse.FileCode.{file_whole_code};
 ghost use Rattle.types_parse.specs.parse.FileShown.{IsReadable};
 
+use crate::parse::declarations_so_far::{
+    Around, Constructors, Declared, Fields, FilePhase, RecordOf,
+};
 use crate::parse::file_step::{decl_with, with_decl};
-use crate::parse::known::whole;
 use crate::parse::open::ParsePhase;
-use crate::parse::so_far::{Around, Constructors, Declared, Fields, FilePhase, RecordOf};
+use crate::parse::open_depth::whole;
 use crate::parse::type_step::TypeSoFar;
 use base_data::model::Memory;
 use base_data::model::list::List;

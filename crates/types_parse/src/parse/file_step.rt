@@ -1,7 +1,7 @@
 //! One step of the parser on a lexeme outside of types.
 
 ghost use Rattle.std.specs.Prelude.{◌≡◌, ◌++◌, ◌∷◌, [], Some, length, IfOk};
-ghost use Rattle.types_parse.specs.declared.parse.so_far.FilePhase.TheVariants as files;
+ghost use Rattle.types_parse.specs.declared.parse.declarations_so_far.FilePhase.TheVariants as files;
 ghost use Rattle.types_parse.specs.parse.FileCode.{decl_code, after_decl_code, after_constr_code};
 ghost use Rattle.types_parse.specs.parse.FileCode.{after_record_code, after_field_code};
 ghost use Rattle.types_parse.specs.parse.FileCode.{listed_code};
@@ -14,8 +14,10 @@ ghost use Rattle.types_parse.specs.parse.FileCode.{after_upper_code};
 ghost use Rattle.types_parse.specs.parse.FileCode.{close_record_code, begin_field_code};
 ghost use Rattle.types_parse.specs.parse.FileCode.{take_field_name_code, take_colon_code};
 
+use crate::parse::declarations_so_far::{
+    Around, Constructors, Declared, Fields, FilePhase, Group, RecordOf,
+};
 use crate::parse::open::ParsePhase;
-use crate::parse::so_far::{Around, Constructors, Declared, Fields, FilePhase, Group, RecordOf};
 use base_data::model::Memory;
 use base_data::model::list::List;
 use base_data::text::copied_name;

@@ -3,21 +3,23 @@
 ghost use Rattle.std.specs.Prelude.{List as Seq, ◌≡◌, Option, Some, None, Result, Ok, Err};
 ghost use Rattle.types_parse.specs.declared.parse.open.OpenConstruct.{OpenConstruct as AFrame};
 ghost use Rattle.types_parse.specs.parse.TypeCode.{begin_code, step_code};
-ghost use Rattle.types_parse.specs.declared.parse.so_far.FilePhase.TheVariants as files;
+ghost use Rattle.types_parse.specs.declared.parse.declarations_so_far.FilePhase.TheVariants as files;
 ghost use Rattle.types_parse.specs.parse.FileCode.{is_argument, in_type_code, begin_body_code};
 ghost use Rattle.types_parse.specs.parse.FileCode.{begin_arguments_code, file_step_code};
 ghost use Rattle.types_parse.specs.parse.FileCode.{file_depth_code};
 ghost use Rattle.types_parse.specs.parse.FileCode.{after_step, FileSteps};
 ghost use Rattle.types_parse.specs.parse.FileShown.{IsReadable, IfEnded};
 
+use crate::parse::declarations_so_far::{
+    Around, Constructors, Declared, Fields, FilePhase, RecordOf,
+};
 use crate::parse::file_step::{
     after_param, after_record, after_type, after_upper, begin_decl, begin_field, begin_file,
     take_colon, take_decl_name, take_equals, take_field_name, take_param, take_upper,
 };
-use crate::parse::known::depth;
 use crate::parse::open::{ParsePhase, TypeStep};
+use crate::parse::open_depth::depth;
 use crate::parse::parse_stack::ParseStack;
-use crate::parse::so_far::{Around, Constructors, Declared, Fields, FilePhase, RecordOf};
 use crate::parse::type_step::TypeSoFar;
 use base_data::model::Memory;
 use base_data::model::list::List;

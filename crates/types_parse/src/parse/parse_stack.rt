@@ -3,7 +3,7 @@
 ghost use Rattle.std.specs.Prelude.{◌≡◌, List, [], ◌∷◌, reverse, IfOk, Option};
 ghost use Rattle.types_parse.specs.declared.parse.open.OpenConstruct.{OpenConstruct};
 ghost use Rattle.std.specs.Option.{option_copied};
-ghost use Rattle.types_parse.specs.parse.Popped.{Popped, first};
+ghost use Rattle.types_parse.specs.parse.PoppedConstruct.{Popped, first};
 
 use crate::parse::open::OpenConstruct;
 use base_data::model::Memory;

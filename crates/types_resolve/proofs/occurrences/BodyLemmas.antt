@@ -12,13 +12,13 @@ use Rattle.types_resolve.specs.scope.Sites.{IsSite}
 use Rattle.types_resolve.specs.occurrences.Counted.{in_type}
 use Rattle.types_resolve.specs.occurrences.CountedFile.{along, field_count, names_of_fields, in_field, constructor_count}
 use Rattle.types_resolve.specs.occurrences.CountedFile.{records_in, in_body, body_count, parameters_in, decl_count, counted_positions}
-use Rattle.types_resolve.specs.declared.occurrences.found.FoundOccurrences.{FoundOccurrences}
-use Rattle.types_resolve.specs.scope.Brackets.{AreBrackets}
+use Rattle.types_resolve.specs.declared.occurrences.found_occurrences.FoundOccurrences.{FoundOccurrences}
+use Rattle.types_resolve.specs.scope.TypeBrackets.{AreBrackets}
 use Rattle.types_resolve.specs.occurrences.Adds.{Adds}
-use Rattle.types_resolve.specs.occurrences.Found.{AddsFound}
+use Rattle.types_resolve.specs.occurrences.FoundOccurrences.{AddsFound}
 use Rattle.types_resolve.specs.occurrences.Bodies.{records_of, carrying_of, occurrences_of, constructor_names, names_in, carrying_body}
-use Rattle.types_resolve.proofs.occurrences.FoundLemmas.{AddsFound-then, AddsFound-row, then_row, AreBrackets-added}
-use Rattle.types_resolve.proofs.occurrences.SiteLemmas.{nothing, IsSite-added}
+use Rattle.types_resolve.proofs.occurrences.OccurrenceFoundLemmas.{AddsFound-then, AddsFound-row, then_row, AreBrackets-added}
+use Rattle.types_resolve.proofs.occurrences.OccurrenceSiteLemmas.{nothing, IsSite-added}
 
 -- `b` is `a` with the additions of a body, including the row of the body's constructors.
 abbrev pub AddsBody : List ℕ → Body → FoundOccurrences → FoundOccurrences → Type 0

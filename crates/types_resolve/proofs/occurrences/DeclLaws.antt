@@ -17,8 +17,8 @@ use Rattle.types_spec.specs.declared.types.decl.Field.{Field}
 use Rattle.types_spec.specs.declared.types.decl.Constructor.{Constructor}
 use Rattle.types_spec.specs.declared.types.decl.Decl.{Decl}
 use Rattle.types_spec.specs.types.Occurrence.{Placed, Occurrence, DeclPositions}
-use Rattle.types_parse.specs.parse.Written.{type_of_app, type_of_texpr, parameters_of, field_of_tree, fields_of_tree}
-use Rattle.types_parse.specs.parse.Written.{arguments_of_tree, constructor_of_tree, body_of_tree, declaration_of_tree}
+use Rattle.types_parse.specs.parse.WrittenTrees.{type_of_app, type_of_texpr, parameters_of, field_of_tree, fields_of_tree}
+use Rattle.types_parse.specs.parse.WrittenTrees.{arguments_of_tree, constructor_of_tree, body_of_tree, declaration_of_tree}
 use Rattle.types_resolve.specs.occurrences.Counted.{after, marks, in_type}
 use Rattle.types_resolve.specs.occurrences.CountedFile.{along, count_all, type_count, placed, parameters_in, field_count}
 use Rattle.types_resolve.specs.occurrences.CountedFile.{names_of_fields, in_field, arguments_count, constructor_count}
@@ -30,7 +30,7 @@ use Rattle.types_resolve.specs.occurrences.InFile.{field_occurrences, constr_nam
 use Rattle.types_resolve.specs.occurrences.InFile.{arguments_record, constr_record, arguments_occurrences}
 use Rattle.types_resolve.specs.occurrences.InFile.{constr_occurrences, in_constrs, body_records, body_occurrences}
 use Rattle.types_resolve.specs.occurrences.InFile.{decl_positions}
-use Rattle.types_resolve.proofs.occurrences.StandLemmas.{IsSilent, IsClosed, closed_last, after_append, marks_append, marks_before, marks_after}
+use Rattle.types_resolve.proofs.occurrences.OccurrenceStandLemmas.{IsSilent, IsClosed, closed_last, after_append, marks_append, marks_before, marks_after}
 use Rattle.types_resolve.proofs.occurrences.TypeLaws.{texpr_stands, app_stands, texpr_closed, app_closed}
 use Rattle.types_resolve.proofs.occurrences.FileLaws.{IsCounted, row_counted, row_seen, row_closed}
 

@@ -7,10 +7,10 @@ use Rattle.std.proofs.lemmas.List.{get_or_append_left, get_or_push}
 use Rattle.std.proofs.lemmas.Option.{slice_get_read, get_or_from_slice_get}
 use Rattle.types_spec.specs.types.Ty.{Ty, variable, named, tuple, bracket, part, tag, tag_of, including, parts}
 use Rattle.types_spec.specs.types.Occurrence.{PlacedItem}
-use Rattle.types_spec.specs.types.Nodes.{type_at, types_of, type_of_node, IsBelow, AreOrdered}
+use Rattle.types_spec.specs.types.TypeNodes.{type_at, types_of, type_of_node, IsBelow, AreOrdered}
 use Rattle.types_spec.specs.declared.types.ty.TypeTreeNode.{TypeTreeNode}
 use Rattle.types_spec.specs.declared.types.ty.TypeTreeNode.TheVariants as nodes
-use Rattle.types_spec.proofs.types.NodeLemmas.{types_of-at}
+use Rattle.types_spec.proofs.types.TypeNodeLemmas.{types_of-at}
 use Rattle.types_resolve.specs.occurrences.Counted.{inner_count, own_count, begins}
 use Rattle.types_resolve.specs.declared.occurrences.fact.Facts.{Facts}
 use Rattle.types_resolve.specs.occurrences.Facts.{holds, is_alone, some_grow, capped, nothing, fact_at, facts_of, total_of, whole, leaf}

@@ -8,7 +8,7 @@ use Rattle.types_parse.specs.grammar.Grammar.{Kinds, each_after}
 use Rattle.types_resolve.specs.occurrences.Counted.{opens_item, after, marks}
 use Rattle.types_resolve.specs.occurrences.CountedFile.{along, count_all}
 use Rattle.types_resolve.specs.occurrences.InFile.{spread}
-use Rattle.types_resolve.proofs.occurrences.StandLemmas.{IsSilent, IsClosed, closed_last, after_append, marks_append}
+use Rattle.types_resolve.proofs.occurrences.OccurrenceStandLemmas.{IsSilent, IsClosed, closed_last, after_append, marks_append}
 
 -- ---- rows
 

@@ -11,12 +11,12 @@ use Rattle.types_parse.specs.grammar.Grammar.{group_kinds, file_kinds}
 use Rattle.types_spec.specs.declared.types.decl.Decl.{Decl}
 use Rattle.types_spec.specs.types.Occurrence.{DeclPositions}
 use Rattle.types_spec.specs.types.Scope.{decls_of}
-use Rattle.types_parse.specs.parse.Written.{declaration_of_tree, declarations_after}
+use Rattle.types_parse.specs.parse.WrittenTrees.{declaration_of_tree, declarations_after}
 use Rattle.types_resolve.specs.occurrences.Counted.{after, marks}
 use Rattle.types_resolve.specs.occurrences.CountedFile.{along, count_all, decl_count, counted_positions, counted_file}
 use Rattle.types_resolve.specs.occurrences.InFile.{spread, decl_positions, decl_size, group_positions, positions_after}
 use Rattle.types_resolve.specs.occurrences.Laws.{FilesAreCounted}
-use Rattle.types_resolve.proofs.occurrences.StandLemmas.{IsSilent, after_append, marks_append, marks_before}
+use Rattle.types_resolve.proofs.occurrences.OccurrenceStandLemmas.{IsSilent, after_append, marks_append, marks_before}
 use Rattle.types_resolve.proofs.occurrences.FileLaws.{IsCounted, row_counted, row_seen, row_closed}
 use Rattle.types_resolve.proofs.occurrences.DeclLaws.{decl_closed, decl_counted, decl_seen}
 

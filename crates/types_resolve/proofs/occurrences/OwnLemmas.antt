@@ -7,19 +7,19 @@ use Rattle.std.proofs.lemmas.List.{append-nil}
 use Rattle.types_spec.specs.types.Ty.{Ty, parts}
 use Rattle.types_spec.specs.declared.types.ty.TypeTreeNode.{TypeTreeNode}
 use Rattle.types_spec.specs.declared.types.ty.TypeTreeNode.TheVariants as nodes
-use Rattle.types_spec.specs.types.Nodes.{type_at, types_of, type_of_node, AreOrdered}
+use Rattle.types_spec.specs.types.TypeNodes.{type_at, types_of, type_of_node, AreOrdered}
 use Rattle.types_spec.specs.types.Occurrence.{PlacedItem, Occurrence, use_of, variable_at}
 use Rattle.types_spec.specs.types.Scope.{written_tag}
 use Rattle.types_resolve.specs.occurrences.Counted.{inner_count, items_in, begins, own}
 use Rattle.types_resolve.specs.declared.occurrences.fact.Facts.{Facts}
 use Rattle.types_resolve.specs.declared.occurrences.walk.WalkTask.{WalkTask}
-use Rattle.types_resolve.specs.scope.Brackets.{brackets_among}
+use Rattle.types_resolve.specs.scope.TypeBrackets.{brackets_among}
 use Rattle.types_resolve.specs.occurrences.Facts.{capped, fact_at, AreFacts, IsLeaf}
 use Rattle.types_resolve.specs.occurrences.Walk.{task_own}
 use Rattle.types_resolve.specs.declared.scope.site.Site.{Site}
 use Rattle.types_resolve.specs.occurrences.Adds.{Adds}
 use Rattle.types_resolve.proofs.occurrences.AddsLemmas.{Adds-none, Adds-variable, Adds-use, Adds-bracket}
-use Rattle.types_resolve.proofs.occurrences.WalkLemmas.{position_of, type_at-node}
+use Rattle.types_resolve.proofs.occurrences.OccurrenceWalkLemmas.{position_of, type_at-node}
 
 -- ---- the beginning of a type
 

@@ -5,21 +5,21 @@ use Rattle.std.specs.Prelude.{slice_index}
 use Rattle.std.proofs.lemmas.List.{append-nil}
 use Rattle.types_lex.specs.declared.lexeme.LexemeKind.TheVariants as kinds
 use Rattle.types_lex.specs.declared.lexeme.Symbol.TheVariants as symbols
-use Rattle.types_parse.specs.grammar.Grammar.{Name, Texpr, App, Simple, Texprs, Items, Item, texpr, app, simple_kinds}
+use Rattle.types_parse.specs.grammar.Grammar.{Name, Texpr, App, Simple, Texprs, Items, ItemTree, texpr, app, simple_kinds}
 use Rattle.types_parse.specs.grammar.Grammar.{texprs, items, item, mark, lower, bar_if}
 use Rattle.types_parse.specs.grammar.Grammar as trees
 use Rattle.types_spec.specs.types.Ty.{Ty, named, tuple, bracket, part, tag, tag_of, including, parts}
 use Rattle.types_spec.specs.types.Occurrence.{Occurrence, PlacedItem, use_of, bracket_of}
-use Rattle.types_parse.specs.parse.Written.{type_of_texpr, tuple_of, type_of_app, applied_to, type_of_items}
-use Rattle.types_parse.specs.parse.Written.{with_item, type_of_simple}
+use Rattle.types_parse.specs.parse.WrittenTrees.{type_of_texpr, tuple_of, type_of_app, applied_to, type_of_items}
+use Rattle.types_parse.specs.parse.WrittenTrees.{with_item, type_of_simple}
 use Rattle.types_parse.specs.parse.TypeShown.{types_of_texprs}
 use Rattle.types_resolve.specs.occurrences.InText.{placed_items, in_texpr, in_app, in_simple, in_texprs, in_items}
 use Rattle.types_resolve.specs.occurrences.InText.{in_item}
 use Rattle.types_resolve.specs.occurrences.Counted.{marks, own_count, inner_count, items_in, begins, inner, in_type}
 use Rattle.types_resolve.specs.occurrences.Laws.{TypesAreCounted}
-use Rattle.types_resolve.proofs.occurrences.StandLemmas.{IsSilent, IsClosed, closed_last, marks_append, marks_before}
-use Rattle.types_resolve.proofs.occurrences.StandLemmas.{marks_over, Stands, Inside, WritesOrFails, first_part, next_part, alone}
-use Rattle.types_resolve.proofs.occurrences.StandLemmas.{with_name, next_tag, next_item, written_last}
+use Rattle.types_resolve.proofs.occurrences.OccurrenceStandLemmas.{IsSilent, IsClosed, closed_last, marks_append, marks_before}
+use Rattle.types_resolve.proofs.occurrences.OccurrenceStandLemmas.{marks_over, Stands, Inside, WritesOrFails, first_part, next_part, alone}
+use Rattle.types_resolve.proofs.occurrences.OccurrenceStandLemmas.{with_name, next_tag, next_item, written_last}
 
 -- ---- the beginnings of types
 
@@ -48,7 +48,7 @@ applied_parts : (name : Name) (ts : Texprs) → parts (applied_to name ts) ≡ t
 applied_parts name (trees.first t) = refl
 applied_parts name (trees.further ts t) = ap (λ all. all ++ type_of_texpr t ∷ []) (applied_parts name ts)
 
-item_own : (w : Ty) (i : Item) → own_count (with_item w i) ≡ own_count w
+item_own : (w : Ty) (i : ItemTree) → own_count (with_item w i) ≡ own_count w
 item_own w (trees.tag name) = refl
 item_own w (trees.tag_of name t) = refl
 item_own w (trees.included a) = refl
@@ -58,7 +58,7 @@ items_own (trees.one i) = item_own bracket i
 items_own (trees.more all i) = item_own (type_of_items all) i ∙ items_own all
 
 item_begins :
-    (j : ℕ) (b : Bool) (arguments : List Ty) (items : List PlacedItem) (w : Ty) (i : Item)
+    (j : ℕ) (b : Bool) (arguments : List Ty) (items : List PlacedItem) (w : Ty) (i : ItemTree)
     → begins j b arguments items (with_item w i) ≡ begins j b arguments items w
 item_begins j b arguments items w (trees.tag name) = refl
 item_begins j b arguments items w (trees.tag_of name t) = refl
@@ -273,7 +273,7 @@ mutual
       (item_inside j b (marks k true (items all)) (type_of_items all) (in_items k b all) i (items_inside k b all))
 
   item_inside :
-      (j : ℕ) (b : Bool) (ms : List ℕ) (w : Ty) (one : List Occurrence) (i : Item) → Inside b ms w one
+      (j : ℕ) (b : Bool) (ms : List ℕ) (w : Ty) (one : List Occurrence) (i : ItemTree) → Inside b ms w one
       → Inside b (ms ++ marks j true (item i)) (with_item w i) (one ++ in_item j b i)
   item_inside j b ms w one (trees.tag name) before = next_tag b ms j name w one before
   item_inside j b ms w one (trees.tag_of name t) before =
@@ -301,7 +301,7 @@ mutual
       (items_inside k b all) (items_written k b all))
 
   item_written :
-      (j : ℕ) (b : Bool) (ms : List ℕ) (w : Ty) (one : List Occurrence) (placed : List PlacedItem) (i : Item)
+      (j : ℕ) (b : Bool) (ms : List ℕ) (w : Ty) (one : List Occurrence) (placed : List PlacedItem) (i : ItemTree)
       → Inside b ms w one → WritesOrFails ms w placed
       → WritesOrFails (ms ++ marks j true (item i)) (with_item w i) (placed ++ (j, with_item bracket i) ∷ [])
   item_written j b ms w one placed (trees.tag name) before written =

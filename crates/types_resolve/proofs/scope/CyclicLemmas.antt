@@ -14,18 +14,18 @@ use Rattle.types_spec.specs.types.Scope.{declared_names, decls_of}
 use Rattle.types_resolve.specs.declared.scope.site.Site.{Site}
 use Rattle.types_resolve.specs.scope.Breaks.{names_of_decls}
 use Rattle.types_resolve.specs.scope.Cyclic.{CyclicAt, ComesBefore, IsCyclicName}
-use Rattle.types_resolve.specs.scope.Graph.{Graph, IsEdge, IsPath, Reaches, IsOnCycle}
+use Rattle.types_resolve.specs.scope.StepGraph.{AdjacencyLists, IsEdge, IsPath, Reaches, IsOnCycle}
 use Rattle.types_resolve.specs.scope.Least.{IsLeast, earliest, position_if}
 use Rattle.types_resolve.specs.scope.Sites.{AreSites, IsSite}
-use Rattle.types_resolve.specs.scope.Steps.{HasStep, IsStepGraph}
-use Rattle.types_resolve.proofs.scope.FileLemmas.{decl_at, name_placed, not_earlier}
-use Rattle.types_resolve.proofs.scope.LeastLemmas.{Before, before_more, least_if, least_more, least_same}
-use Rattle.types_resolve.proofs.scope.SearchLemmas.{path_within}
+use Rattle.types_resolve.specs.scope.AbbreviationSteps.{HasStep, IsStepGraph}
+use Rattle.types_resolve.proofs.scope.ScopeFileLemmas.{decl_at, name_placed, not_earlier}
+use Rattle.types_resolve.proofs.scope.ScopeLeastLemmas.{Before, before_more, least_if, least_more, least_same}
+use Rattle.types_resolve.proofs.scope.ScopeSearchLemmas.{path_within}
 
 -- ---- steps and edges
 
 module _ (all : List DeclPositions) (distinct : (k : ℕ) → ¬ NamesBreak all twice k) (sites : List Site)
-    (graph : Graph) (counted : length sites ≡ length all)
+    (graph : AdjacencyLists) (counted : length sites ≡ length all)
     (stand : (i : ℕ) (site : Site) (d : DeclPositions) → slice_get sites i ≡ Some site
     → slice_get all i ≡ Some d → IsSite site d)
     (is : IsStepGraph (decls_of all) sites graph) where
@@ -140,7 +140,7 @@ module _ (all : List DeclPositions) (distinct : (k : ℕ) → ¬ NamesBreak all 
         )
 
 pub least_of_file :
-    (decls : List Decl) (names : List Placed) (sites : List Site) (all : List DeclPositions) (graph : Graph)
+    (decls : List Decl) (names : List Placed) (sites : List Site) (all : List DeclPositions) (graph : AdjacencyLists)
     → AreSites decls names sites all → ((k : ℕ) → ¬ NamesBreak all twice k)
     → IsStepGraph decls sites graph → (best : Option ℕ) → IsLeast (IsCyclicName graph names) best
     → IsLeast (BreaksInFile all cyclic) best
@@ -153,7 +153,7 @@ least_of_file decls names sites all graph are distinct is best least =
 
 -- ---- the loop over the names
 
-module _ (graph : Graph) (names : List Placed) (i : ℕ) (p : Placed) (best : Option ℕ)
+module _ (graph : AdjacencyLists) (names : List Placed) (i : ℕ) (p : Placed) (best : Option ℕ)
     (p_is : slice_get names i ≡ Some p)
     (so_far : IsLeast (Before (CyclicAt graph names) i) best) where
   same_position : (k : ℕ) → CyclicAt graph names i k → (p.0 ≡ k) × IsOnCycle graph i

@@ -3,7 +3,7 @@ use Rattle.std.specs.Prelude.{ℕ, Option, Some, None, List, [], ◌∷◌, slic
 use Rattle.types_spec.specs.declared.types.ty.TypeTreeNode.{TypeTreeNode}
 use Rattle.types_spec.specs.declared.types.ty.TypeTreeNode.TheVariants as nodes
 use Rattle.types_spec.specs.types.Occurrence.{Placed}
-use Rattle.types_resolve.specs.declared.scope.brackets.BracketItem.{BracketItem}
+use Rattle.types_resolve.specs.declared.scope.type_brackets.BracketItem.{BracketItem}
 
 -- The node of the bracket without its last item, or `None` if the node is not an item.
 abbrev pub without_item : TypeTreeNode → Option ℕ

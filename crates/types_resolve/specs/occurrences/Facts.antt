@@ -5,7 +5,7 @@ use Rattle.std.specs.Prelude.{length, slice_index_or}
 use Rattle.types_spec.specs.types.Ty.{Ty, variable, named, tuple, bracket, part, tag, tag_of}
 use Rattle.types_spec.specs.types.Ty.{including}
 use Rattle.types_spec.specs.types.Ty.{parts}
-use Rattle.types_spec.specs.types.Nodes.{type_at}
+use Rattle.types_spec.specs.types.TypeNodes.{type_at}
 use Rattle.types_spec.specs.declared.types.ty.TypeTreeNode.{TypeTreeNode}
 use Rattle.types_spec.specs.declared.types.ty.TypeTreeNode.TheVariants as nodes
 use Rattle.types_spec.specs.types.Occurrence.{PlacedItem}

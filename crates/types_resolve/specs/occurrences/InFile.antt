@@ -12,7 +12,7 @@ use Rattle.types_parse.specs.grammar.Grammar.{params_kinds, field_kinds, constr_
 use Rattle.types_parse.specs.grammar.Grammar.{group_kinds}
 use Rattle.types_parse.specs.grammar.Grammar as trees
 use Rattle.types_spec.specs.types.Occurrence.{Placed, Occurrence, DeclPositions}
-use Rattle.types_parse.specs.parse.Written.{declaration_of_tree}
+use Rattle.types_parse.specs.parse.WrittenTrees.{declaration_of_tree}
 use Rattle.types_resolve.specs.occurrences.InText.{in_texpr, in_app}
 
 -- The results of `of` for each element of a list. Lexeme `k` is directly before the first element,

@@ -1,14 +1,15 @@
 -- The occurrences in the text of a type, by the tree of the grammar: names, variables and brackets,
 -- each with the index of its lexeme.
 use Rattle.std.specs.Prelude.{ℕ, ◌+◌, Bool, true, List, [], ◌∷◌, ◌++◌, length}
-use Rattle.types_parse.specs.grammar.Grammar.{Texpr, App, Simple, Texprs, Items, Item, texpr, app}
+use Rattle.types_parse.specs.grammar.Grammar.{Texpr, App, Simple, Texprs, Items, ItemTree, texpr}
+use Rattle.types_parse.specs.grammar.Grammar.{app}
 use Rattle.types_parse.specs.grammar.Grammar.{texprs}
 use Rattle.types_parse.specs.grammar.Grammar.{items, bar_if}
 use Rattle.types_parse.specs.grammar.Grammar as trees
 use Rattle.types_spec.specs.types.Ty.{bracket}
 use Rattle.types_spec.specs.types.Occurrence.{Occurrence, PlacedItem, use_of, variable_at}
 use Rattle.types_spec.specs.types.Occurrence.{bracket_of}
-use Rattle.types_parse.specs.parse.Written.{type_of_texpr, type_of_app, with_item}
+use Rattle.types_parse.specs.parse.WrittenTrees.{type_of_texpr, type_of_app, with_item}
 use Rattle.types_parse.specs.parse.TypeShown.{types_of_texprs}
 
 -- The items of a bracket, each with its first lexeme. The first item begins with lexeme `k`.
@@ -52,7 +53,7 @@ abbrev mutual
   in_items k in_tag (trees.more all i) =
       in_items k in_tag all ++ in_item (k + length (items all) + 1) in_tag i
 
-  pub in_item : ℕ → Bool → Item → List Occurrence
+  pub in_item : ℕ → Bool → ItemTree → List Occurrence
   in_item k in_tag (trees.tag name) = []
   in_item k in_tag (trees.tag_of name t) = in_texpr (k + 2) true t
   in_item k in_tag (trees.included a) = in_app k in_tag a

@@ -3,7 +3,7 @@
 use Rattle.std.specs.Prelude.{ℕ, ◌≡◌, Bool, false}
 use Rattle.types_parse.specs.grammar.Grammar.{Texpr, texpr, FileTree, file_kinds}
 use Rattle.types_spec.specs.types.Scope.{decls_of}
-use Rattle.types_parse.specs.parse.Written.{type_of_texpr, declarations_of}
+use Rattle.types_parse.specs.parse.WrittenTrees.{type_of_texpr, declarations_of}
 use Rattle.types_resolve.specs.occurrences.InText.{in_texpr}
 use Rattle.types_resolve.specs.occurrences.InFile.{file_positions}
 use Rattle.types_resolve.specs.occurrences.CountedFile.{counted_file}

@@ -5,7 +5,7 @@ use Rattle.types_spec.specs.types.Ty.{Ty, variable, named, tuple, bracket, part,
 use Rattle.types_spec.specs.types.Ty.{including}
 use Rattle.types_spec.specs.declared.types.ty.TypeTreeNode.{TypeTreeNode}
 use Rattle.types_spec.specs.declared.types.ty.TypeTreeNode.TheVariants as nodes
-use Rattle.types_spec.specs.types.Nodes.{type_at}
+use Rattle.types_spec.specs.types.TypeNodes.{type_at}
 use Rattle.types_spec.specs.types.Occurrence.{Occurrence}
 use Rattle.types_resolve.specs.occurrences.Counted.{inner, own}
 use Rattle.types_resolve.specs.declared.occurrences.fact.Facts.{Facts}

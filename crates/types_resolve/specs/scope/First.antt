@@ -1,7 +1,7 @@
 -- The first rule on names that is broken.
 use Rattle.std.specs.Prelude.{ℕ, ◌<◌, Option, None, Some}
 use Rattle.types_spec.specs.types.Scope.{IsFirst, Rule, turn}
-use Rattle.types_resolve.specs.declared.scope.first.Broken.{Broken}
+use Rattle.types_resolve.specs.declared.scope.first_name_rule.Broken.{Broken}
 use Rattle.types_resolve.specs.scope.Breaks.{rule_of}
 
 -- No rule with a turn before `n` is broken.

@@ -2,7 +2,7 @@
 use Rattle.std.specs.Prelude.{ℕ, ◌<◌, ◌≡◌, Bool, true, false, List, length, Option, Some, slice_get}
 use Rattle.types_resolve.specs.declared.scope.ranks.VisitState.{VisitState}
 use Rattle.types_resolve.specs.declared.scope.ranks.VisitState.TheVariants as marks
-use Rattle.types_resolve.specs.scope.Graph.{Graph, IsEdge}
+use Rattle.types_resolve.specs.scope.StepGraph.{AdjacencyLists, IsEdge}
 
 -- Node `i` has the rank `rank`.
 abbrev pub HasRank : List VisitState → ℕ → ℕ → Type 0
@@ -21,7 +21,7 @@ abbrev pub is_ranked : List VisitState → ℕ → Bool
 is_ranked all i = is_rank (slice_get all i)
 
 -- Each edge of a node with a rank leads to a node with a lower rank.
-pub record AreRanks (graph : Graph) (all : List VisitState) : Type 0 where
+pub record AreRanks (graph : AdjacencyLists) (all : List VisitState) : Type 0 where
   pub counted : length all ≡ length graph
   pub fall :
       (i rank j : ℕ) → HasRank all i rank → IsEdge graph i j

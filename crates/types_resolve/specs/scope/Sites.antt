@@ -5,7 +5,7 @@ use Rattle.std.specs.Prelude.{Some, slice_get}
 use Rattle.std.specs.List.{filter_map}
 use Rattle.types_spec.specs.types.Ty.{Ty}
 use Rattle.types_spec.specs.declared.types.decl.Decl.{Decl}
-use Rattle.types_spec.specs.types.Accepted.{IsVariable}
+use Rattle.types_spec.specs.types.WellFormed.{IsVariable}
 use Rattle.types_spec.specs.types.Occurrence.{Occurrence}
 use Rattle.types_spec.specs.types.Occurrence.{Placed, PlacedItem, use_of, variable_at}
 use Rattle.types_spec.specs.types.Occurrence.{bracket_of, DeclPositions}

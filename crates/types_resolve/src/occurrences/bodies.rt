@@ -9,12 +9,12 @@ ghost use Rattle.types_resolve.specs.occurrences.CountedFile.{in_arguments};
 ghost use Rattle.types_resolve.specs.occurrences.CountedFile.{arguments_count};
 ghost use Rattle.types_resolve.specs.occurrences.CountedFile.{constructor_count, records_in};
 ghost use Rattle.types_resolve.specs.occurrences.CountedFile.{in_body, body_count};
-ghost use Rattle.types_resolve.specs.occurrences.Found.{AddsFound};
+ghost use Rattle.types_resolve.specs.occurrences.FoundOccurrences.{AddsFound};
 ghost use Rattle.types_resolve.specs.occurrences.Bodies.{constructor_names, records_of};
 ghost use Rattle.types_resolve.specs.occurrences.Bodies.{carrying_of, occurrences_of};
 ghost use Rattle.types_resolve.specs.occurrences.Bodies.{names_in, carrying_body};
 
-use crate::occurrences::found::{FoundOccurrences, write_carrying, write_names};
+use crate::occurrences::found_occurrences::{FoundOccurrences, write_carrying, write_names};
 use crate::occurrences::mark::{placed, skip};
 use crate::occurrences::walk::write_type;
 use base_data::model::Memory;

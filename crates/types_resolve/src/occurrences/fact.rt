@@ -1,7 +1,7 @@
 //! Facts about the type of each node in a list of nodes.
 
 ghost use Rattle.std.specs.Prelude.{◌≡◌, ◌&&◌, ◌||◌, not, length, IfOk};
-ghost use Rattle.types_spec.specs.types.Nodes.{types_of, AreOrdered};
+ghost use Rattle.types_spec.specs.types.TypeNodes.{types_of, AreOrdered};
 ghost use Rattle.types_resolve.specs.occurrences.Facts.{fact_at, leaf, whole, total_of, facts_of};
 ghost use Rattle.types_resolve.specs.occurrences.Facts.{AreFacts};
 

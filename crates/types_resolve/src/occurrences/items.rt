@@ -1,9 +1,9 @@
 //! The items of a bracket.
 
 ghost use Rattle.std.specs.Prelude.{◌≡◌, ◌<◌, ◌++◌, ◌∷◌, [], IfOk, OnOk, length, drop, reverse};
-ghost use Rattle.types_spec.specs.types.Nodes.{types_of, type_at, AreOrdered};
+ghost use Rattle.types_spec.specs.types.TypeNodes.{types_of, type_at, AreOrdered};
 ghost use Rattle.types_resolve.specs.occurrences.Counted.{items_in};
-ghost use Rattle.types_resolve.specs.scope.Brackets.{items_known};
+ghost use Rattle.types_resolve.specs.scope.TypeBrackets.{items_known};
 ghost use Rattle.types_resolve.specs.occurrences.Facts.{AreFacts};
 ghost use Rattle.types_resolve.specs.occurrences.BracketItems.{without_item};
 

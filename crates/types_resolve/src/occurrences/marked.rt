@@ -2,7 +2,7 @@
 //! that brackets include.
 
 ghost use Rattle.std.specs.Prelude.{◌≡◌, ◌&&◌, ◌++◌, false, IfOk, OnOk};
-ghost use Rattle.types_parse.specs.grammar.Lexemes.{kinds_of};
+ghost use Rattle.types_parse.specs.grammar.LexemeKinds.{kinds_of};
 ghost use Rattle.types_resolve.specs.occurrences.Counted.{is_marked, opens_item, begins_type};
 ghost use Rattle.types_resolve.specs.occurrences.Counted.{one_if, marks};
 

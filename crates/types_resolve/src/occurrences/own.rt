@@ -2,11 +2,11 @@
 
 ghost use Rattle.std.specs.Prelude.{◌≡◌, ◌<◌, ◌++◌, ◌∷◌, [], OnOk, length, drop};
 ghost use Rattle.std.specs.List.{filter_map};
-ghost use Rattle.types_spec.specs.types.Nodes.{types_of, type_at, AreOrdered};
+ghost use Rattle.types_spec.specs.types.TypeNodes.{types_of, type_at, AreOrdered};
 ghost use Rattle.types_spec.specs.types.Scope.{written_tag};
 ghost use Rattle.types_resolve.specs.occurrences.Counted.{items_in};
 ghost use Rattle.types_resolve.specs.occurrences.Adds.{Adds};
-ghost use Rattle.types_resolve.specs.scope.Brackets.{brackets_among, brackets_known};
+ghost use Rattle.types_resolve.specs.scope.TypeBrackets.{brackets_among, brackets_known};
 ghost use Rattle.types_resolve.specs.occurrences.Facts.{AreFacts};
 ghost use Rattle.types_resolve.specs.occurrences.Walk.{task_own};
 

@@ -2,9 +2,9 @@
 
 ghost use Rattle.std.specs.Prelude.{◌≡◌, ◌<◌, ◌++◌, IfOk, OnOk};
 ghost use Rattle.std.specs.List.{filter_map};
-ghost use Rattle.types_spec.specs.types.Nodes.{types_of, AreOrdered};
+ghost use Rattle.types_spec.specs.types.TypeNodes.{types_of, AreOrdered};
 ghost use Rattle.types_spec.specs.types.Scope.{written_tag};
-ghost use Rattle.types_resolve.specs.scope.Brackets.{items_known};
+ghost use Rattle.types_resolve.specs.scope.TypeBrackets.{items_known};
 ghost use Rattle.types_resolve.specs.occurrences.BracketItems.{tag_at, tag_there};
 
 use crate::scope::{BracketItem, LocatedName};

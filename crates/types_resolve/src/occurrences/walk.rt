@@ -1,17 +1,17 @@
 //! A traversal of the nodes of a type, which collects the occurrences in the type.
 
 ghost use Rattle.std.specs.Prelude.{◌≡◌, ◌<◌, ◌++◌, ◌∷◌, [], IfOk, OnOk, length, drop, false};
-ghost use Rattle.types_spec.specs.types.Nodes.{types_of, AreOrdered};
+ghost use Rattle.types_spec.specs.types.TypeNodes.{types_of, AreOrdered};
 ghost use Rattle.types_resolve.specs.occurrences.Counted.{in_type};
 ghost use Rattle.types_resolve.specs.occurrences.CountedFile.{type_count};
 ghost use Rattle.types_resolve.specs.occurrences.Adds.{Adds};
-ghost use Rattle.types_resolve.specs.scope.Brackets.{brackets_among, brackets_known};
+ghost use Rattle.types_resolve.specs.scope.TypeBrackets.{brackets_among, brackets_known};
 ghost use Rattle.types_resolve.specs.occurrences.Facts.{AreFacts};
-ghost use Rattle.types_resolve.specs.occurrences.Found.{AddsFound};
+ghost use Rattle.types_resolve.specs.occurrences.FoundOccurrences.{AddsFound};
 ghost use Rattle.types_resolve.specs.occurrences.Walk.{behind, tasks_of, task_seen};
 
 use crate::occurrences::fact::{Facts, all_facts, fact_at, total};
-use crate::occurrences::found::{FoundOccurrences, write_brackets};
+use crate::occurrences::found_occurrences::{FoundOccurrences, write_brackets};
 use crate::occurrences::mark::skip;
 use crate::occurrences::own::write_own;
 use crate::scope::{BracketItem, Site};

@@ -4,17 +4,17 @@ ghost use Rattle.std.specs.Prelude.{ℕ, ◌≡◌, ◌<◌, ◌↔◌, IfOk, Is
 ghost use Rattle.types_spec.specs.types.Occurrence.{DeclPositions};
 ghost use Rattle.types_spec.specs.types.Scope.{BreaksInFile, NamesBreak, cyclic, twice};
 ghost use Rattle.types_resolve.specs.scope.Cyclic.{ComesBefore, IsCyclicName};
-ghost use Rattle.types_resolve.specs.scope.Graph.{IsOnCycle};
+ghost use Rattle.types_resolve.specs.scope.StepGraph.{IsOnCycle};
 ghost use Rattle.types_resolve.specs.scope.Least.{IsLeast};
 ghost use Rattle.types_resolve.specs.scope.Ranks.{AreRanks};
 ghost use Rattle.types_resolve.specs.scope.Sites.{AreSites};
 
+use crate::scope::abbreviation_steps::step_graph;
+use crate::scope::cycle_search::is_on_cycle;
 use crate::scope::environment::Environment;
 use crate::scope::least::{earliest, position_if};
 use crate::scope::ranks::{VisitState, is_ranked, ranks};
-use crate::scope::search::is_on_cycle;
 use crate::scope::site::{LocatedName, Site};
-use crate::scope::steps::step_graph;
 use base_data::model::Memory;
 use base_data::model::list::List;
 use std::alloc::Global;

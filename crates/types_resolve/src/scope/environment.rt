@@ -3,7 +3,7 @@
 ghost use Rattle.std.specs.Prelude.{◌≡◌, ◌<◌, IfOk, Some, length, option_copied, slice_get};
 ghost use Rattle.types_spec.specs.types.Declarations.{declaration_of};
 ghost use Rattle.types_resolve.specs.scope.Breaks.{names_of_decls};
-ghost use Rattle.types_resolve.specs.scope.Names.{number_of, ArePositions, IsPosition};
+ghost use Rattle.types_resolve.specs.scope.NamePositions.{number_of, ArePositions, IsPosition};
 
 use crate::scope::name_table::{NameTable, add, empty, find};
 use base_data::model::Memory;
@@ -30,7 +30,7 @@ impl<'a> Model for Environment<'a> {
     ghost coded = { Prim.hlevel (codes, code) };
 
     ghost use Rattle.types_resolve.specs.scope.Breaks.{names_of_decls};
-    ghost use Rattle.types_resolve.specs.scope.Names.{number_of, ArePositions};
+    ghost use Rattle.types_resolve.specs.scope.NamePositions.{number_of, ArePositions};
 
     ghost view = { λ e. e.decls.now };
 

@@ -1,7 +1,7 @@
 //! A table of names with numbers.
 
 ghost use Rattle.std.specs.Prelude.{◌≡◌, ℕ, List, OnOk, IfOk, None};
-ghost use Rattle.types_resolve.specs.scope.Names.{number_of, added};
+ghost use Rattle.types_resolve.specs.scope.NamePositions.{number_of, added};
 
 use base_data::model::Memory;
 use indexmap::IndexMap;

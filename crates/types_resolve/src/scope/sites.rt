@@ -9,13 +9,13 @@ ghost use Rattle.types_resolve.specs.scope.Least.{IsLeast};
 ghost use Rattle.types_resolve.specs.scope.Sites.{AreSites, IsTypeSite};
 
 use crate::scope::cyclic::least_cyclic;
+use crate::scope::declared_names::least_name_twice;
 use crate::scope::environment::Environment;
 use crate::scope::least::earliest;
-use crate::scope::names::least_name_twice;
+use crate::scope::name_uses::least_use;
 use crate::scope::rule::{NameRule, UseRule};
 use crate::scope::seconds::least_second_of_rows;
 use crate::scope::site::{LocatedName, Site, TypeSite};
-use crate::scope::uses::least_use;
 use crate::scope::variables::least_unbound;
 use base_data::model::Memory;
 use std::alloc::Global;

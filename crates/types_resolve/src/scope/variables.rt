@@ -3,7 +3,7 @@
 ghost use Rattle.std.specs.Prelude.{IfOk, length};
 ghost use Rattle.types_resolve.specs.scope.Breaks.{VariablesBreak};
 ghost use Rattle.types_resolve.specs.scope.Least.{IsLeast};
-ghost use Rattle.types_resolve.specs.scope.Names.{number_of, ArePositions};
+ghost use Rattle.types_resolve.specs.scope.NamePositions.{number_of, ArePositions};
 
 use crate::scope::least::{earliest, position_if};
 use crate::scope::name_table::{NameTable, add, empty, find};

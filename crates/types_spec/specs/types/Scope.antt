@@ -13,7 +13,7 @@ use Rattle.types_spec.specs.declared.types.head.TagOf.{TagOf}
 use Rattle.types_spec.specs.types.Ty.{Ty, variable, named, tuple, bracket, part, tag, tag_of}
 use Rattle.types_spec.specs.types.Ty.{including}
 use Rattle.types_spec.specs.types.Ty.{name_of}
-use Rattle.types_spec.specs.types.Accepted.{IsVariable, AreVariants}
+use Rattle.types_spec.specs.types.WellFormed.{IsVariable, AreVariants}
 use Rattle.types_spec.specs.types.Declarations.{predeclared, arity_of, declaration_of, abbreviated}
 use Rattle.types_spec.specs.types.Declarations.{unfolded_times}
 use Rattle.types_spec.specs.types.Head.{tags_in, head}

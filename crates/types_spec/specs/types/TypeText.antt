@@ -13,14 +13,14 @@ joined_by between (text ∷ []) = text
 joined_by between (text ∷ next ∷ texts) = text ++ between ++ joined_by between (next ∷ texts)
 
 -- The text of a part, and whether the part is a tuple.
-pub record Chunk : Type 0 where
+pub record PartText : Type 0 where
   pub is_tuple : Bool
   pub text : List ℕ
 
-abbrev pub text_of : Chunk → List ℕ
+abbrev pub text_of : PartText → List ℕ
 text_of chunk = chunk.text
 
-abbrev pub enclosed : Chunk → List ℕ
+abbrev pub enclosed : PartText → List ℕ
 enclosed chunk = if chunk.is_tuple then codes "(" ++ chunk.text ++ codes ")" else chunk.text
 
 -- ---- types
@@ -32,11 +32,11 @@ pub data Stem : Type 0 where
   brackets : Stem
 
 -- A stem, and the texts of the parts that follow it.
-pub record Chunks : Type 0 where
+pub record StemAndParts : Type 0 where
   pub stem : Stem
-  pub parts : List Chunk
+  pub parts : List PartText
 
-abbrev pub encoded : Stem → List Chunk → List ℕ
+abbrev pub encoded : Stem → List PartText → List ℕ
 encoded (word text) [] = text
 encoded (word text) (one ∷ []) = enclosed one ++ codes " " ++ text
 encoded (word text) (one ∷ more) =
@@ -50,21 +50,21 @@ is_product product = true
 is_product brackets = false
 
 -- The text of a type as a part of another type.
-abbrev pub as_chunk : Chunks → Chunk
+abbrev pub as_chunk : StemAndParts → PartText
 as_chunk chunks =
     record { is_tuple = is_product chunks.stem; text = encoded chunks.stem chunks.parts }
 
-abbrev pub plain_chunk : List ℕ → Chunk
+abbrev pub plain_chunk : List ℕ → PartText
 plain_chunk text = record { is_tuple = false; text = text }
 
-abbrev pub started : Stem → Chunks
+abbrev pub started : Stem → StemAndParts
 started stem = record { stem = stem; parts = [] }
 
-abbrev pub with_chunk : Chunks → Chunk → Chunks
+abbrev pub with_chunk : StemAndParts → PartText → StemAndParts
 with_chunk chunks chunk =
     record { stem = chunks.stem; parts = chunks.parts ++ chunk ∷ [] }
 
-abbrev pub chunks_of : Ty → Chunks
+abbrev pub chunks_of : Ty → StemAndParts
 chunks_of (variable name) = started (word (codes "'" ++ name))
 chunks_of (named name) = started (word name)
 chunks_of tuple = started product

@@ -1,7 +1,7 @@
 //! Type expressions: a list of nodes, whose model in contracts is a tree.
 
 ghost use Rattle.std.specs.Prelude.{◌≡◌};
-ghost use Rattle.types_spec.specs.types.Nodes.{type_of, AreOrdered};
+ghost use Rattle.types_spec.specs.types.TypeNodes.{type_of, AreOrdered};
 
 use base_data::model::list::List;
 use std::marker::Model;
@@ -41,7 +41,7 @@ impl Model for Ty {
 
     ghost coded = { code };
 
-    ghost use Rattle.types_spec.specs.types.Nodes.{type_of, AreOrdered};
+    ghost use Rattle.types_spec.specs.types.TypeNodes.{type_of, AreOrdered};
 
     ghost view = { λ t. type_of t.nodes.items };
 

@@ -5,8 +5,8 @@ use Rattle.std.proofs.lemmas.List.{append-nil, take_more}
 use Rattle.types_spec.specs.declared.types.head.TagOf.{TagOf}
 use Rattle.types_spec.specs.declared.types.head.HeadOf.{HeadOf}
 use Rattle.types_spec.specs.declared.types.head.HeadOf.TheVariants as heads
-use Rattle.types_table.specs.store.Held.{Adds, Grows}
-use Rattle.types_table.proofs.store.HeldLemmas.{there_kept}
+use Rattle.types_table.specs.store.Held.{AddsOnce, Grows}
+use Rattle.types_table.proofs.store.StoreHeldLemmas.{there_kept}
 use Rattle.types_table.specs.declared.partition.head_form.TagForm.{TagForm}
 use Rattle.types_table.specs.declared.partition.head_form.HeadForm.{HeadForm}
 use Rattle.types_table.specs.partition.Form.{IsTagForm, AreTagForms, IsNamed, IsForm}
@@ -56,7 +56,7 @@ module _ {old new : List (List ℕ)} (grown : Grows old new) where
       → AllZip (IsForm new) all forms
   forms_grown all forms = AllZip-more (IsForm old) (IsForm new) form_grown all forms
 
-pub adds_grows : {T : Type 0} {old new : List T} {x : T} {k : ℕ} → Adds old new x k → Grows old new
+pub adds_grows : {T : Type 0} {old new : List T} {x : T} {k : ℕ} → AddsOnce old new x k → Grows old new
 adds_grows {T} {old} {new} {x} {k} adds = ⊎_elim
     (λ same. record { added = []; kept = same ∙ sym (append-nil old) })
     (λ more. record { added = x ∷ []; kept = more }) adds.grown

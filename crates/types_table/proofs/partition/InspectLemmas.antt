@@ -5,9 +5,9 @@ use Rattle.std.specs.Global.{Vec}
 use Rattle.std.proofs.lemmas.List.Elements.{Contains-get_or}
 use Rattle.std.proofs.lemmas.Option.{same_Some, slice_get_within}
 use Rattle.types_table.specs.store.Held.{AreDistinct, Grows}
-use Rattle.types_table.proofs.store.HeldLemmas.{there_kept}
+use Rattle.types_table.proofs.store.StoreHeldLemmas.{there_kept}
 use Rattle.types_table.specs.declared.partition.head_form.HeadForm.{HeadForm}
-use Rattle.types_table.specs.declared.partition.inspect.Inspection.{Inspection}
+use Rattle.types_table.specs.declared.partition.class_inspection.Inspection.{Inspection}
 use Rattle.types_table.specs.partition.Lists.{IsOfClass}
 use Rattle.types_table.specs.partition.Refinement.{IsSignatureOf, SignatureAt, SignedAt, AreSigned, IsInspection}
 use Rattle.types_table.proofs.partition.FormLemmas.{AllZip-more}

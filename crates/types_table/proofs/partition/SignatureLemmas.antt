@@ -18,7 +18,7 @@ use Rattle.types_table.specs.declared.partition.head_form.HeadForm.{HeadForm}
 use Rattle.types_table.specs.declared.partition.signature.TheConstants.{WIDTH}
 use Rattle.types_table.specs.partition.Form.{code_of, row_of, IsTagForm, AreTagForms, IsPlain, IsTagged, IsForm}
 use Rattle.types_table.specs.partition.Signature.{IsSetOf, offset, IsCode, AreCodes, IsSignature}
-use Rattle.types_table.proofs.partition.SetLemmas.{same_sets}
+use Rattle.types_table.proofs.partition.PartitionSetLemmas.{same_sets}
 
 -- ---- lists related element by element
 

@@ -4,13 +4,13 @@ use Rattle.std.specs.Prelude.{slice_get}
 use Rattle.std.proofs.lemmas.Option.{same_Some, slice_get_within, slice_get-get_or}
 use Rattle.base_data.proofs.model.Options.{slice_get_there}
 use Rattle.types_spec.specs.types.Ty.{Ty, variable, named, tuple, bracket, part, tag, tag_of, including}
-use Rattle.types_spec.specs.types.Nodes.{type_at, type_of_node, IsBelow}
-use Rattle.types_spec.proofs.types.NodeLemmas.{types_of-at}
+use Rattle.types_spec.specs.types.TypeNodes.{type_at, type_of_node, IsBelow}
+use Rattle.types_spec.proofs.types.TypeNodeLemmas.{types_of-at}
 use Rattle.types_table.specs.declared.store.stored_node.StoredNode.{StoredNode}
 use Rattle.types_table.specs.declared.store.stored_node.StoredNode.TheVariants as nodes
 use Rattle.types_table.specs.store.Held.{AreDistinct}
 use Rattle.types_table.specs.store.View.{name_at, encoded, types_in, IsNamedBelow, IsStore}
-use Rattle.types_table.proofs.store.HeldLemmas.{get-map}
+use Rattle.types_table.proofs.store.StoreHeldLemmas.{get-map}
 use Rattle.types_table.proofs.store.StoreLemmas.{types_in-length}
 
 module _ (names : List (List ℕ)) (all : List StoredNode) (store : IsStore names all) where

@@ -5,13 +5,13 @@ use Rattle.std.proofs.lemmas.List.{map-append, length-map, append-nil, take-map}
 use Rattle.std.proofs.lemmas.Option.{none-some, same_Some, slice_get_within, get_or_from_slice_get}
 use Rattle.types_spec.specs.types.Ty.{Ty}
 use Rattle.types_spec.specs.declared.types.ty.TypeTreeNode.TheVariants as written
-use Rattle.types_spec.specs.types.Nodes.{type_of_node, types_of, IsBelow, AreOrdered}
-use Rattle.types_spec.proofs.types.NodeLemmas.{types_of-push, types_of-length, types_of-at, node_kept, AreOrdered-push, AreOrdered-take, types_of-take, from_prefix}
+use Rattle.types_spec.specs.types.TypeNodes.{type_of_node, types_of, IsBelow, AreOrdered}
+use Rattle.types_spec.proofs.types.TypeNodeLemmas.{types_of-push, types_of-length, types_of-at, node_kept, AreOrdered-push, AreOrdered-take, types_of-take, from_prefix}
 use Rattle.types_table.specs.declared.store.stored_node.StoredNode.{StoredNode}
 use Rattle.types_table.specs.declared.store.stored_node.StoredNode.TheVariants as nodes
-use Rattle.types_table.specs.store.Held.{AreDistinct, Adds, Holds}
+use Rattle.types_table.specs.store.Held.{AreDistinct, AddsOnce, Holds}
 use Rattle.types_table.specs.store.View.{name_at, encoded, types_in, IsNamedBelow, IsStore}
-use Rattle.types_table.proofs.store.HeldLemmas.{get-map}
+use Rattle.types_table.proofs.store.StoreHeldLemmas.{get-map}
 
 pub types_in-none : types_in [] [] ≡ []
 unfolding types_of
@@ -75,8 +75,8 @@ module _ (names new added : List (List ℕ)) (all : List StoredNode) (kept : new
     own_nodes = store.own_nodes;
   }
 
--- If a list satisfies `Adds`, then the list is `old` followed by zero or one elements.
-pub added_by : {T : Type 0} (old new : List T) (x : T) (i : ℕ) → Adds old new x i → (added : List T) × (new ≡ old ++ added)
+-- If a list satisfies `AddsOnce`, then the list is `old` followed by zero or one elements.
+pub added_by : {T : Type 0} (old new : List T) (x : T) (i : ℕ) → AddsOnce old new x i → (added : List T) × (new ≡ old ++ added)
 added_by old new x i adds = ⊎_elim
     (λ same. ([], same ∙ sym (append-nil old)))
     (λ more. (x ∷ [], more))
@@ -85,7 +85,7 @@ added_by old new x i adds = ⊎_elim
 -- ---- one more node
 
 module _ (names : List (List ℕ)) (all new : List StoredNode) (node : StoredNode) (i : ℕ) (store : IsStore names all)
-    (adds : Adds all new node i) (distinct : AreDistinct new) (known : IsNamedBelow (length names) node)
+    (adds : AddsOnce all new node i) (distinct : AreDistinct new) (known : IsNamedBelow (length names) node)
     (below : IsBelow (length (types_in names all)) (encoded names node)) where
   grown_map : (new ≡ all ++ node ∷ []) → map (encoded names) new ≡ map (encoded names) all ++ encoded names node ∷ []
   grown_map more = ap (map (encoded names)) more ∙ map-append (encoded names) all (node ∷ [])
@@ -141,38 +141,38 @@ module _ (names : List (List ℕ)) (all new : List StoredNode) (node : StoredNod
 -- ---- after a call
 
 -- Lemmas on a call that adds a name, or fails and adds nothing.
-module _ {E : Type 0} (names new : List (List ℕ)) (name : List ℕ) (r : Result ℕ E) (ok : IfOk r (Adds names new name)) (err : OnErr r (new ≡ names)) where
+module _ {E : Type 0} (names new : List (List ℕ)) (name : List ℕ) (r : Result ℕ E) (ok : IfOk r (AddsOnce names new name)) (err : OnErr r (new ≡ names)) where
   pub names_grown : (added : List (List ℕ)) × (new ≡ names ++ added)
   names_grown = by r ok err where
-    by : (q : Result ℕ E) → IfOk q (Adds names new name) → OnErr q (new ≡ names) → (added : List (List ℕ)) × (new ≡ names ++ added)
+    by : (q : Result ℕ E) → IfOk q (AddsOnce names new name) → OnErr q (new ≡ names) → (added : List (List ℕ)) × (new ≡ names ++ added)
     by (Ok i) adds none = added_by names new name i adds
     by (Err e) none same = ([], same ∙ sym (append-nil names))
 
   pub name_below : IfOk r (λ n. n < length new)
   name_below = by r ok where
-    by : (q : Result ℕ E) → IfOk q (Adds names new name) → IfOk q (λ n. n < length new)
+    by : (q : Result ℕ E) → IfOk q (AddsOnce names new name) → IfOk q (λ n. n < length new)
     by (Ok i) adds = slice_get_within new i name adds.there
     by (Err e) none = tt
 
   pub name_is : IfOk r (λ n. name_at new n ≡ name)
   name_is = by r ok where
-    by : (q : Result ℕ E) → IfOk q (Adds names new name) → IfOk q (λ n. name_at new n ≡ name)
+    by : (q : Result ℕ E) → IfOk q (AddsOnce names new name) → IfOk q (λ n. name_at new n ≡ name)
     by (Ok i) adds = get_or_from_slice_get new i name [] adds.there
     by (Err e) none = tt
 
 -- Lemmas on a call that adds a node, or fails and adds nothing.
-module _ {E : Type 0} (names : List (List ℕ)) (all new : List StoredNode) (node : StoredNode) (r : Result ℕ E) (ok : IfOk r (Adds all new node)) (err : OnErr r (new ≡ all))
+module _ {E : Type 0} (names : List (List ℕ)) (all new : List StoredNode) (node : StoredNode) (r : Result ℕ E) (ok : IfOk r (AddsOnce all new node)) (err : OnErr r (new ≡ all))
     (store : IsStore names all) (distinct : AreDistinct new) (known : IsNamedBelow (length names) node)
     (below : IsBelow (length (types_in names all)) (encoded names node)) where
   pub store_after : IsStore names new
   store_after = by r ok err where
-    by : (q : Result ℕ E) → IfOk q (Adds all new node) → OnErr q (new ≡ all) → IsStore names new
+    by : (q : Result ℕ E) → IfOk q (AddsOnce all new node) → OnErr q (new ≡ all) → IsStore names new
     by (Ok i) adds none = store_node names all new node i store adds distinct known below
     by (Err e) none same = subst (IsStore names) (sym same) store
 
   pub holds_after : IfOk r (Holds (types_in names all) (types_in names new) (type_of_node (types_in names all) (encoded names node)))
   holds_after = by r ok where
-    by : (q : Result ℕ E) → IfOk q (Adds all new node) → IfOk q (Holds (types_in names all) (types_in names new) (type_of_node (types_in names all) (encoded names node)))
+    by : (q : Result ℕ E) → IfOk q (AddsOnce all new node) → IfOk q (Holds (types_in names all) (types_in names new) (type_of_node (types_in names all) (encoded names node)))
     by (Ok i) adds = holds_node names all new node i store adds distinct known below
     by (Err e) none = tt
 

@@ -8,7 +8,7 @@ use Rattle.types_spec.specs.types.Table.{head_at}
 use Rattle.types_spec.specs.types.Classes.{PartsBelow, KeepsTogether}
 use Rattle.types_table.specs.partition.Form.{AreForms}
 use Rattle.types_table.specs.store.Held.{AreDistinct, Grows}
-use Rattle.types_table.specs.declared.partition.inspect.Inspection.{Inspection}
+use Rattle.types_table.specs.declared.partition.class_inspection.Inspection.{Inspection}
 use Rattle.types_table.specs.declared.partition.head_form.HeadForm.{HeadForm}
 use Rattle.types_table.specs.partition.Lists.{Has}
 use Rattle.types_table.specs.partition.Signature.{IsSignature}

@@ -7,7 +7,7 @@ AreDistinct {T} xs =
     (i j : ℕ) (x : T) → slice_get xs i ≡ Some x → slice_get xs j ≡ Some x → i ≡ j
 
 -- `new` equals `old`, or is `old` followed by `x`. In `new`, `x` is at index `number`.
-pub record Adds {T : Type 0} (old new : List T) (x : T) (number : ℕ) : Type 0 where
+pub record AddsOnce {T : Type 0} (old new : List T) (x : T) (number : ℕ) : Type 0 where
   pub grown : (new ≡ old) ⊎ (new ≡ old ++ x ∷ [])
   pub there : slice_get new number ≡ Some x
 

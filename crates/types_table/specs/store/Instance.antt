@@ -3,7 +3,7 @@ use Rattle.std.specs.Prelude.{ℕ, ◌<◌, ◌≡◌, List, Option, Some, None,
 use Rattle.types_spec.specs.types.Ty.{Ty, variable, argument_for, instance}
 use Rattle.types_spec.specs.declared.types.ty.TypeTreeNode.{TypeTreeNode}
 use Rattle.types_spec.specs.declared.types.ty.TypeTreeNode.TheVariants as nodes
-use Rattle.types_spec.specs.types.Nodes.{type_at, types_of, type_of_node}
+use Rattle.types_spec.specs.types.TypeNodes.{type_at, types_of, type_of_node}
 use Rattle.types_table.specs.store.Held.{Grows}
 
 -- The instance of a node over the types of earlier nodes: a variable is replaced by `value`.

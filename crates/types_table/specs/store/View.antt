@@ -3,7 +3,7 @@ use Rattle.std.specs.Prelude.{ℕ, ◌<◌, ◌≡◌, List, [], map, length, sl
 use Rattle.types_spec.specs.types.Ty.{Ty}
 use Rattle.types_spec.specs.declared.types.ty.TypeTreeNode.{TypeTreeNode as Written}
 use Rattle.types_spec.specs.declared.types.ty.TypeTreeNode.TheVariants as written
-use Rattle.types_spec.specs.types.Nodes.{types_of, AreOrdered}
+use Rattle.types_spec.specs.types.TypeNodes.{types_of, AreOrdered}
 use Rattle.types_table.specs.declared.store.stored_node.StoredNode.{StoredNode}
 use Rattle.types_table.specs.declared.store.stored_node.StoredNode.TheVariants as nodes
 use Rattle.types_table.specs.store.Held.{AreDistinct}

@@ -5,7 +5,7 @@ ghost use Rattle.types_spec.specs.types.Table.{head_at};
 ghost use Rattle.types_spec.specs.types.Classes.{PartsBelow};
 ghost use Rattle.types_table.specs.partition.Users.{AreUsers};
 ghost use Rattle.types_table.specs.partition.Start.{IsUnderWayAt, IsParted};
-ghost use Rattle.types_table.specs.partition.Found.{AreClasses};
+ghost use Rattle.types_table.specs.partition.FoundClasses.{AreClasses};
 
 use crate::partition::head_form::{HeadForm, forms_of};
 use crate::partition::refinement::{Refinement, turn};

@@ -6,8 +6,8 @@ ghost use Rattle.types_table.specs.partition.Users.{AreUsers};
 ghost use Rattle.types_table.specs.partition.Refinement.{IsInspection, IsUnderWay, PartsNoEqual};
 ghost use Rattle.types_table.specs.partition.Start.{IsUnderWayAt, IsOpenAt};
 
+use crate::partition::class_inspection::{Inspection, inspect_at_all, inspect_at_few};
 use crate::partition::head_form::HeadForm;
-use crate::partition::inspect::{Inspection, inspect_at_all, inspect_at_few};
 use crate::partition::lists::{make_rooms, shorten, taken};
 use crate::partition::moves::{add_members, move_all, name_positions};
 use crate::partition::signature::class_at;

@@ -1,7 +1,7 @@
 //! A set of signatures with indices.
 
 ghost use Rattle.std.specs.Prelude.{◌≡◌, ◌<◌, [], Some, length, slice_get, IfOk};
-ghost use Rattle.types_table.specs.store.Held.{Adds};
+ghost use Rattle.types_table.specs.store.Held.{AddsOnce};
 
 use base_data::model::Memory;
 use indexmap::IndexSet;
@@ -19,7 +19,7 @@ impl Model for Signatures {
 
     ghost Value = { List (List ℕ) };
 
-    ghost use Rattle.types_table.specs.store.Texts.{texts_of};
+    ghost use Rattle.types_table.specs.store.StoredTexts.{texts_of};
     ghost use Rattle.types_table.specs.store.Held.{AreDistinct};
 
     ghost view = { λ s. texts_of s.signatures.keys };
@@ -48,7 +48,7 @@ impl Signatures {
 
     /// Returns the index of a signature. Adds the signature if it is not in the set.
     pub fn position(&mut self, signature: Vec<usize>) -> Result<usize, Memory>
-        ensures ok { IfOk result (Adds self.old self.new signature.items) }
+        ensures ok { IfOk result (AddsOnce self.old self.new signature.items) }
         ensures distinct { AreDistinct self.new }
     {
         match self.signatures.get_index_of(signature.as_slice()) {

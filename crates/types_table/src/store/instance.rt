@@ -3,7 +3,7 @@
 ghost use Rattle.std.specs.Prelude.{◌≡◌, ◌<◌, List, Some, length, slice_get, map, All, Contains};
 ghost use Rattle.std.specs.Prelude.{IfOk, IfSome, OnErr};
 ghost use Rattle.types_spec.specs.types.Ty.{Ty, instance};
-ghost use Rattle.types_spec.specs.types.Nodes.{type_at, types_of, IsBelow, AreOrdered};
+ghost use Rattle.types_spec.specs.types.TypeNodes.{type_at, types_of, IsBelow, AreOrdered};
 ghost use Rattle.types_table.specs.store.Held.{Grows, Holds};
 ghost use Rattle.types_table.specs.store.Instance.{instance_of_node, argument_at, type_or_variable};
 ghost use Rattle.types_table.specs.store.Instance.{AreInstances, HoldsEach};
@@ -71,7 +71,7 @@ impl TypeStore {
     }
 }
 
-ghost use Rattle.types_spec.specs.types.Nodes.{type_of};
+ghost use Rattle.types_spec.specs.types.TypeNodes.{type_of};
 
 /// Adds the instances of nodes. Returns the number of the last node's instance.
 fn grow(

@@ -1,7 +1,7 @@
 //! Interned names: each name has a number.
 
 ghost use Rattle.std.specs.Prelude.{◌≡◌, ◌<◌, [], Some, length, slice_get, IfOk, OnErr};
-ghost use Rattle.types_table.specs.store.Held.{Adds};
+ghost use Rattle.types_table.specs.store.Held.{AddsOnce};
 
 use base_data::model::Memory;
 use indexmap::IndexSet;
@@ -20,7 +20,7 @@ impl Model for NameSet {
 
     ghost Value = { List (List ℕ) };
 
-    ghost use Rattle.types_table.specs.store.Texts.{texts_of};
+    ghost use Rattle.types_table.specs.store.StoredTexts.{texts_of};
     ghost use Rattle.types_table.specs.store.Held.{AreDistinct};
 
     ghost view = { λ n. texts_of n.texts.keys };
@@ -43,7 +43,7 @@ impl NameSet {
     /// Returns the number of a name, and adds the name if it is missing. If `Memory` is returned,
     /// the set is unchanged.
     pub fn number(&mut self, name: &[u8]) -> Result<usize, Memory>
-        ensures ok { IfOk result (Adds self.old self.new name.now) }
+        ensures ok { IfOk result (AddsOnce self.old self.new name.now) }
         ensures err { OnErr result (self.new ≡ self.old) }
         ensures distinct { AreDistinct self.new }
     {

@@ -1,8 +1,8 @@
 //! Copies a type out of the store.
 
 ghost use Rattle.std.specs.Prelude.{◌≡◌, ◌<◌, length, IfOk};
-ghost use Rattle.types_spec.specs.types.Nodes.{type_at};
-ghost use Rattle.types_table.specs.store.Borrowed.{written_of};
+ghost use Rattle.types_spec.specs.types.TypeNodes.{type_at};
+ghost use Rattle.types_table.specs.store.BorrowedNode.{written_of};
 
 use crate::store::stored_node::TypeNode;
 use crate::store::type_store::TypeStore;

@@ -3,9 +3,9 @@
 ghost use Rattle.std.specs.Prelude.{◌≡◌, ◌<◌, ◌≤◌, [], Some, length, slice_get, take, IfOk, OnErr};
 ghost use Rattle.types_spec.specs.types.Ty.{variable, named, tuple, bracket, part, tag, tag_of};
 ghost use Rattle.types_spec.specs.types.Ty.{including};
-ghost use Rattle.types_spec.specs.types.Nodes.{type_at, type_of_node, IsBelow};
-ghost use Rattle.types_table.specs.store.Held.{Adds, Holds, AreDistinct};
-ghost use Rattle.types_table.specs.store.Borrowed.{written_of};
+ghost use Rattle.types_spec.specs.types.TypeNodes.{type_at, type_of_node, IsBelow};
+ghost use Rattle.types_table.specs.store.Held.{AddsOnce, Holds, AreDistinct};
+ghost use Rattle.types_table.specs.store.BorrowedNode.{written_of};
 
 use crate::store::name_set::NameSet;
 use crate::store::stored_node::{StoredNode, TypeNode};
@@ -210,7 +210,7 @@ fn write(
 
 /// Returns the number of a node in a set, and adds the node if it is missing.
 fn number_of(nodes: &mut IndexSet<StoredNode>, node: StoredNode) -> Result<usize, Memory>
-    ensures ok { IfOk result (Adds nodes.old.keys nodes.new.keys node) }
+    ensures ok { IfOk result (AddsOnce nodes.old.keys nodes.new.keys node) }
     ensures err { OnErr result (nodes.new.keys ≡ nodes.old.keys) }
     ensures distinct { AreDistinct nodes.new.keys }
 {

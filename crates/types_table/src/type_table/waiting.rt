@@ -3,9 +3,10 @@
 ghost use Rattle.std.specs.Prelude.{◌≡◌, ◌<◌, ◌++◌, [], List, None, length, IfSome, OnOk, All};
 ghost use Rattle.std.specs.Prelude.{option_map};
 ghost use Rattle.types_spec.specs.types.Ty.{Ty};
-ghost use Rattle.types_spec.specs.types.Nodes.{type_at};
-ghost use Rattle.types_table.specs.type_table.Texts.{whole_of, stem, parts_text, text_of_waiting};
-ghost use Rattle.types_table.specs.type_table.Texts.{waiting_text, IsWithin};
+ghost use Rattle.types_spec.specs.types.TypeNodes.{type_at};
+ghost use Rattle.types_table.specs.type_table.PrintedTypes.{whole_of, stem, parts_text};
+ghost use Rattle.types_table.specs.type_table.PrintedTypes.{text_of_waiting};
+ghost use Rattle.types_table.specs.type_table.PrintedTypes.{waiting_text, IsWithin};
 
 use crate::store::{TypeNode, TypeStore};
 use base_data::model::Memory;

@@ -11,7 +11,7 @@ use Rattle.types_spec.specs.types.Classes.{DoneNow}
 use Rattle.types_spec.specs.types.Reached.{parts_of}
 use Rattle.base_data.proofs.model.Options.{Contains-first, Contains-later, Contains-none, same_or_not, Contains-cases}
 use Rattle.types_theory.specs.equality.ClassLaws.{StableClassesAreEqual}
-use Rattle.types_theory.proofs.equality.AgreeLemmas.{HeadsAgree-more}
+use Rattle.types_theory.proofs.equality.EqualityAgreeLemmas.{HeadsAgree-more}
 
 -- ---- all pairs of one class, as a list
 

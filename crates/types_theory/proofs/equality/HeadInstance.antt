@@ -19,16 +19,16 @@ use Rattle.types_spec.specs.types.Declarations.{abbreviated_by, unfolded}
 use Rattle.types_spec.specs.types.Head.{has_tag, joined, with_tags, tags_in, bare_tag, carrying_tag}
 use Rattle.types_spec.specs.types.Head.{head_meant}
 use Rattle.types_spec.specs.types.Head.{with_part, plain_head, head}
-use Rattle.types_spec.specs.types.Accepted.{IsVariable, IsWhole, IsType, TakeArguments, AreVariants}
-use Rattle.types_spec.specs.types.Accepted.{HasSoundBrackets}
-use Rattle.types_spec.specs.types.Accepted.{AreWellFormed, IsSoundType}
+use Rattle.types_spec.specs.types.WellFormed.{IsVariable, IsWhole, IsType, TakeArguments, AreVariants}
+use Rattle.types_spec.specs.types.WellFormed.{HasSoundBrackets}
+use Rattle.types_spec.specs.types.WellFormed.{AreWellFormed, IsSoundType}
 use Rattle.types_spec.specs.types.Table.{tag_with_part, head_with_parts}
 use Rattle.base_data.proofs.model.Options.{Contains-first, Contains-later, Contains-none, Contains-cases}
 use Rattle.std.proofs.lemmas.List.Elements.{Contains-append_cases}
 use Rattle.types_theory.proofs.equality.HeadMapLemmas.{append-map}
-use Rattle.types_theory.proofs.equality.InstanceLemmas.{type-instance, type-takes}
-use Rattle.types_theory.proofs.equality.InstanceLemmas.{unfolded-instance, abbreviation_is}
-use Rattle.types_theory.proofs.equality.NeedLemmas.{head_again, head_plain}
+use Rattle.types_theory.proofs.equality.EqualityInstanceLemmas.{type-instance, type-takes}
+use Rattle.types_theory.proofs.equality.EqualityInstanceLemmas.{unfolded-instance, abbreviation_is}
+use Rattle.types_theory.proofs.equality.EqualityNeedLemmas.{head_again, head_plain}
 use Rattle.types_theory.proofs.equality.RankedLemmas.{are_ranked}
 use Rattle.types_theory.proofs.equality.WeightLemmas.{heft, falls, body_falls, by_part, beside, by_including}
 use Rattle.types_theory.proofs.equality.WeightLemmas.{inside, price, priced}

@@ -8,7 +8,7 @@ use Rattle.types_spec.specs.declared.types.head.HeadOf.{HeadOf}
 use Rattle.types_spec.specs.declared.types.head.HeadOf.TheVariants as heads
 use Rattle.types_spec.specs.types.Equal.{Pairwise, ArgumentsAgree, TagsAgree, SameTags, HeadsAgree}
 use Rattle.types_spec.specs.types.Reached.{listed_if, parts_of}
-use Rattle.types_spec.proofs.types.ShapeLemmas.{listed-map}
+use Rattle.types_spec.proofs.types.TypeShapeLemmas.{listed-map}
 use Rattle.types_spec.specs.types.Table.{tag_with_part, head_with_parts}
 
 module _ {T U : Type 0} (f : T → U) (P : U → U → Type 0) where

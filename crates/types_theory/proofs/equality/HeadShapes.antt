@@ -29,7 +29,7 @@ use Rattle.types_spec.specs.declared.types.predeclared.SumField.TheVariants as m
 use Rattle.types_spec.specs.types.Ty.{Ty, named, part, instance, argument_for}
 use Rattle.types_spec.specs.types.Predeclared.{SumBlock, Sum, sum_at, name_at, takes, applied, member_type, constr_of, shape_if, sum_shape}
 use Rattle.types_spec.specs.types.Declarations.{declaration_of}
-use Rattle.types_spec.specs.types.Accepted.{IsType, AreSound, AreHashed, types_of_body, types_of_arguments}
+use Rattle.types_spec.specs.types.WellFormed.{IsType, AreSound, AreHashed, types_of_body, types_of_arguments}
 use Rattle.types_spec.specs.types.Head.{head}
 use Rattle.types_spec.specs.types.Shape.{is_flat, any_mutable, constants_in, types_of_fields}
 use Rattle.types_spec.specs.types.Shape.{block_of, blocks_in, array_of, predeclared_shape}
@@ -39,7 +39,7 @@ use Rattle.types_spec.specs.types.Fitting.{is_number, tag_with}
 use Rattle.types_spec.specs.types.Equal.{Pairwise, ArgumentsAgree, SameTags, HeadsAgree, Holds, IsClosed}
 use Rattle.base_data.proofs.model.Options.{Contains-first, Contains-later, Contains-none, Contains-cases, Contains-map, map-Contains}
 use Rattle.types_theory.proofs.equality.SimilarLemmas.{Similar, Whole, instances_similar, arguments_similar}
-use Rattle.types_theory.proofs.equality.NeedLemmas.{similar_heads, held_similar}
+use Rattle.types_theory.proofs.equality.EqualityNeedLemmas.{similar_heads, held_similar}
 use Rattle.types_theory.proofs.equality.RankedLemmas.{are_ranked}
 use Rattle.types_theory.proofs.equality.ShapeAgreement.{ShapesAgree, BlocksAgree, BothConstr, FoundAgree}
 use Rattle.types_theory.proofs.equality.ShapeAgreement.{PolysAgree}

@@ -12,10 +12,10 @@ use Rattle.types_spec.specs.types.Ty.{Ty, variable, named, tuple, bracket, part,
 use Rattle.types_spec.specs.types.Ty.{parts, instance, argument_for}
 use Rattle.types_spec.specs.types.Declarations.{predeclared, unfolded}
 use Rattle.types_spec.specs.types.Head.{with_tags, head_meant, with_part, plain_head, head}
-use Rattle.types_spec.specs.types.Accepted.{IsVariable, IsWhole, IsType, TakeArguments}
-use Rattle.types_spec.specs.types.Accepted.{AreWellFormed}
-use Rattle.types_theory.proofs.equality.InstanceLemmas.{type-instance, type-takes}
-use Rattle.types_theory.proofs.equality.InstanceLemmas.{unfolded-instance, abbreviation_is}
+use Rattle.types_spec.specs.types.WellFormed.{IsVariable, IsWhole, IsType, TakeArguments}
+use Rattle.types_spec.specs.types.WellFormed.{AreWellFormed}
+use Rattle.types_theory.proofs.equality.EqualityInstanceLemmas.{type-instance, type-takes}
+use Rattle.types_theory.proofs.equality.EqualityInstanceLemmas.{unfolded-instance, abbreviation_is}
 use Rattle.types_theory.proofs.equality.HeadInstance.{weighs, falls_to, again, plain, of_argument}
 use Rattle.types_theory.proofs.equality.HeadInstance.{unfolded_is, parts_written, parts_take}
 

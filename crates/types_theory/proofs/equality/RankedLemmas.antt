@@ -10,7 +10,7 @@ use Rattle.types_spec.specs.declared.types.decl.Decl.{Decl}
 use Rattle.types_spec.specs.declared.types.decl.Body.{Body}
 use Rattle.types_spec.specs.types.Ty.{Ty, variable, named, tuple, bracket, part, tag, tag_of, including}
 use Rattle.types_spec.specs.types.Declarations.{abbreviated}
-use Rattle.types_spec.specs.types.Accepted.{names_outside, AreSound, types_of_body}
+use Rattle.types_spec.specs.types.WellFormed.{names_outside, AreSound, types_of_body}
 use Rattle.base_data.proofs.model.Options.{Contains-first}
 use Rattle.types_theory.proofs.equality.WeightLemmas.{AreRanked, CostsWithin}
 

@@ -11,7 +11,7 @@ use Rattle.types_spec.specs.types.Ty.{Ty, variable, named, tuple, bracket, part,
 use Rattle.types_spec.specs.types.Equal.{HeadsAgree, Holds, EqualBy}
 use Rattle.types_spec.specs.types.Reached.{parts_of}
 use Rattle.base_data.proofs.model.Options.{Contains-first, Contains-later, Contains-none, Contains-cases, Contains-map, Contains-flat_map, map-Contains, flat_map-Contains}
-use Rattle.types_theory.proofs.equality.AgreeLemmas.{HeadsAgree-more}
+use Rattle.types_theory.proofs.equality.EqualityAgreeLemmas.{HeadsAgree-more}
 use Rattle.types_theory.proofs.equality.SimilarLemmas.{Whole, Similar}
 
 -- ---- elements of constructed lists

@@ -11,7 +11,7 @@ use Rattle.types_spec.specs.declared.types.decl.Decl.{Decl}
 use Rattle.types_spec.specs.declared.types.decl.Body.{Body}
 use Rattle.types_spec.specs.types.Ty.{Ty, variable, named, tuple, bracket, part, tag, tag_of, including}
 use Rattle.types_spec.specs.types.Ty.{name_of, parts, instance, argument_for}
-use Rattle.types_spec.specs.types.Accepted.{IsVariable, IsWhole, IsType}
+use Rattle.types_spec.specs.types.WellFormed.{IsVariable, IsWhole, IsType}
 use Rattle.types_spec.specs.types.Declarations.{unfolded, abbreviated_at, abbreviated_by, abbreviated}
 use Rattle.types_spec.specs.types.Declarations.{declaration_of}
 use Rattle.types_spec.specs.types.Equal.{Pairwise, Holds}

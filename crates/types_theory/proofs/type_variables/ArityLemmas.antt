@@ -10,9 +10,9 @@ use Rattle.types_spec.specs.declared.types.head.HeadOf.TheVariants as heads
 use Rattle.types_spec.specs.types.Ty.{Ty, variable, named, tuple, bracket, part, tag, tag_of, including}
 use Rattle.types_spec.specs.types.Declarations.{predeclared, declaration_of, arity_in, arity_of, unfolded}
 use Rattle.types_spec.specs.types.Head.{with_tags, bare_tag, carrying_tag, tags_in, head_meant, with_part, plain_head, head}
-use Rattle.types_spec.specs.types.Accepted.{TakeArguments, IsSoundType, AreWellFormed}
+use Rattle.types_spec.specs.types.WellFormed.{TakeArguments, IsSoundType, AreWellFormed}
 use Rattle.types_theory.proofs.equality.HeadInstance.{weighs, falls_to, again, plain}
-use Rattle.types_theory.proofs.equality.SoundLemmas.{sound_unfolded}
+use Rattle.types_theory.proofs.equality.EqualitySoundLemmas.{sound_unfolded}
 
 pub length-push : {X : Type 0} (xs : List X) (x : X) → length (xs ++ x ∷ []) ≡ suc (length xs)
 length-push [] x = refl

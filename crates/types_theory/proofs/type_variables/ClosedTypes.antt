@@ -22,12 +22,12 @@ use Rattle.types_spec.specs.types.Declarations.{predeclared, declaration_of, abb
 use Rattle.types_spec.specs.types.Head.{head_meant, with_part, plain_head, head}
 use Rattle.types_spec.specs.types.Shape.{array_of, predeclared_shape, head_shape, shape}
 use Rattle.types_spec.specs.types.Fitting.{object_fields, fields_of, is_asked}
-use Rattle.types_spec.specs.types.Accepted.{IsWhole, TakeArguments, VariablesAmong, HasSoundBrackets, IsSoundType, AreWellFormed}
+use Rattle.types_spec.specs.types.WellFormed.{IsWhole, TakeArguments, VariablesAmong, HasSoundBrackets, IsSoundType, AreWellFormed}
 use Rattle.types_spec.specs.types.Reached.{named_in, parts_of, reached_from}
 use Rattle.types_spec.specs.types.Table.{head_with_parts}
 use Rattle.types_theory.proofs.equality.HeadInstance.{plain}
-use Rattle.types_theory.proofs.equality.PartsLemmas.{fields_of_mapped}
-use Rattle.types_theory.proofs.equality.SoundLemmas.{head_parts_sound}
+use Rattle.types_theory.proofs.equality.EqualityPartsLemmas.{fields_of_mapped}
+use Rattle.types_theory.proofs.equality.EqualitySoundLemmas.{head_parts_sound}
 use Rattle.types_theory.specs.type_variables.TypeVariables.{IsClosedType}
 use Rattle.types_theory.proofs.type_variables.ArityLemmas.{length-push}
 use Rattle.types_theory.proofs.type_variables.InstanceShapes.{Becomes, becomes, replaced}

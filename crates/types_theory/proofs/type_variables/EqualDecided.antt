@@ -19,7 +19,7 @@ use Rattle.types_spec.specs.types.Head.{head}
 use Rattle.types_spec.specs.types.Equal.{Pairwise, ArgumentsAgree, TagsAgree, SameTags, HeadsAgree, Holds, IsClosed, Equal}
 use Rattle.types_spec.specs.types.Reached.{parts_of}
 use Rattle.types_theory.proofs.typing.Choices.{search_all, without}
-use Rattle.types_theory.proofs.equality.AgreeLemmas.{HeadsAgree-more}
+use Rattle.types_theory.proofs.equality.EqualityAgreeLemmas.{HeadsAgree-more}
 use Rattle.types_theory.proofs.equality.TyEquality.{types_same_or_not}
 
 -- ---- decidable properties

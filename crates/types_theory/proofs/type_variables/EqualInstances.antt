@@ -9,15 +9,15 @@ use Rattle.types_spec.specs.declared.types.head.HeadOf.{HeadOf}
 use Rattle.types_spec.specs.declared.types.head.HeadOf.TheVariants as heads
 use Rattle.types_spec.specs.types.Ty.{Ty, instance}
 use Rattle.types_spec.specs.types.Head.{head}
-use Rattle.types_spec.specs.types.Accepted.{IsSoundType, AreWellFormed}
+use Rattle.types_spec.specs.types.WellFormed.{IsSoundType, AreWellFormed}
 use Rattle.types_spec.specs.types.Equal.{HeadsAgree, Holds, IsClosed, Equal}
 use Rattle.types_spec.specs.types.Reached.{reached_from}
 use Rattle.types_spec.specs.types.Table.{head_with_parts}
-use Rattle.types_theory.proofs.equality.AgreeLemmas.{HeadsAgree-more}
+use Rattle.types_theory.proofs.equality.EqualityAgreeLemmas.{HeadsAgree-more}
 use Rattle.types_theory.proofs.equality.EqualLemmas.{HeadsAgree-own}
 use Rattle.types_theory.proofs.equality.HeadInstance.{IsNoVariable}
 use Rattle.types_theory.proofs.equality.HeadMapLemmas.{HeadsAgree-map}
-use Rattle.types_theory.proofs.equality.ReachedLemmas.{parts_here}
+use Rattle.types_theory.proofs.equality.EqualityReachedLemmas.{parts_here}
 use Rattle.types_theory.proofs.equality.TyEquality.{types_same_or_not}
 use Rattle.types_theory.specs.type_variables.TypeVariables.{AreClosed}
 use Rattle.types_theory.proofs.type_variables.InstanceShapes.{variable_or_not, commutes, replaced}

@@ -9,16 +9,16 @@ use Rattle.types_spec.specs.declared.types.decl.Decl.{Decl}
 use Rattle.types_spec.specs.types.Ty.{Ty, instance}
 use Rattle.types_spec.specs.types.Shape.{shape}
 use Rattle.types_spec.specs.types.Fitting.{or_none, fields_of, is_asked}
-use Rattle.types_spec.proofs.types.AskedLemmas.{asked_is, is_needed}
-use Rattle.types_spec.specs.types.Accepted.{IsSoundType, AreWellFormed}
+use Rattle.types_spec.proofs.types.TypeAskedLemmas.{asked_is, is_needed}
+use Rattle.types_spec.specs.types.WellFormed.{IsSoundType, AreWellFormed}
 use Rattle.types_spec.specs.types.Equal.{declared_shapes}
 use Rattle.types_spec.specs.types.Reached.{reached_from}
 use Rattle.types_spec.specs.types.Typing.{field_at, IsListed, IsHeld, IsTyping, IsTyped, HasType}
 use Rattle.types_spec.specs.types.Table.{Table, table_shapes}
-use Rattle.types_theory.proofs.equality.ReachedLemmas.{named_here, reached_listed, needs_named}
-use Rattle.types_theory.proofs.equality.SoundLemmas.{all_reached_sound}
+use Rattle.types_theory.proofs.equality.EqualityReachedLemmas.{named_here, reached_listed, needs_named}
+use Rattle.types_theory.proofs.equality.EqualitySoundLemmas.{all_reached_sound}
 use Rattle.types_theory.specs.table.TableDecides.{IsMadeFor}
-use Rattle.types_theory.proofs.table.DecideLemmas.{root_is_first, all_typed, typed_has, typed_is, typing_too, has_back}
+use Rattle.types_theory.proofs.table.TableDecideLemmas.{root_is_first, all_typed, typed_has, typed_is, typing_too, has_back}
 use Rattle.types_theory.specs.type_variables.TypeVariables.{AreClosed}
 use Rattle.types_theory.proofs.type_variables.InstanceFields.{some_is, fields_become, fits_become, mutable_becomes, asked_back}
 use Rattle.types_theory.proofs.type_variables.EqualInstances.{instances_equal}

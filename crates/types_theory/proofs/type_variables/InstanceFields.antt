@@ -19,9 +19,9 @@ use Rattle.types_spec.specs.types.Ty.{Ty, instance}
 use Rattle.types_spec.specs.types.Head.{head}
 use Rattle.types_spec.specs.types.Shape.{array_of, head_shape, shape}
 use Rattle.types_spec.specs.types.Fitting.{none_if, object_fields, fields_of, is_mutable, is_asked}
-use Rattle.types_spec.specs.types.Accepted.{IsSoundType, AreWellFormed}
+use Rattle.types_spec.specs.types.WellFormed.{IsSoundType, AreWellFormed}
 use Rattle.types_spec.specs.types.Table.{head_with_parts}
-use Rattle.types_theory.proofs.equality.PartsLemmas.{fields_of_mapped, mutable_same, asked_same}
+use Rattle.types_theory.proofs.equality.EqualityPartsLemmas.{fields_of_mapped, mutable_same, asked_same}
 use Rattle.types_theory.proofs.type_variables.InstanceShapes.{Becomes, IsArray, becomes, replaced}
 
 -- If an optional result exists, then the result is `Some x` for some `x`.

@@ -26,13 +26,13 @@ use Rattle.types_spec.specs.types.Shape.{any_mutable, types_of_fields, block_of,
 use Rattle.types_spec.specs.types.Shape.{record_shape, body_shape, datatype_shape, tag_shape, head_shape, shape}
 use Rattle.types_spec.specs.types.Predeclared.{sum_at, name_at}
 use Rattle.types_spec.proofs.types.SumTypes.{sum-instance}
-use Rattle.types_spec.specs.types.Accepted.{VariablesAmong, types_of_arguments, types_of_body, IsSoundType, AreWellFormed}
+use Rattle.types_spec.specs.types.WellFormed.{VariablesAmong, types_of_arguments, types_of_body, IsSoundType, AreWellFormed}
 use Rattle.types_spec.specs.types.Reached.{parts_of}
 use Rattle.types_spec.specs.types.Table.{constr_with, tag_with_parts, with_parts, tag_with_part, head_with_parts}
-use Rattle.types_theory.proofs.equality.InstanceLemmas.{instance-instance}
+use Rattle.types_theory.proofs.equality.EqualityInstanceLemmas.{instance-instance}
 use Rattle.types_theory.proofs.equality.HeadInstance.{IsNoVariable, head-instance, includes_of}
 use Rattle.types_theory.proofs.equality.HeadVariable.{head-variable}
-use Rattle.types_theory.proofs.equality.SoundLemmas.{head_parts_sound}
+use Rattle.types_theory.proofs.equality.EqualitySoundLemmas.{head_parts_sound}
 use Rattle.types_theory.proofs.type_variables.ArityLemmas.{as_many}
 
 pub variable_or_not : (h : HeadOf Ty) → ((x : List ℕ) × (h ≡ heads.Variable x)) ⊎ IsNoVariable h

@@ -12,12 +12,12 @@ use Rattle.types_spec.specs.types.Ty.{Ty, instance}
 use Rattle.types_spec.specs.types.Shape.{shape}
 use Rattle.types_spec.specs.types.Fitting.{or_none, fields_of, is_asked, asked_of}
 use Rattle.types_spec.specs.types.Fault.{field_of, type_of_field, step, value_at}
-use Rattle.types_spec.specs.types.Accepted.{IsSoundType, AreWellFormed}
+use Rattle.types_spec.specs.types.WellFormed.{IsSoundType, AreWellFormed}
 use Rattle.types_spec.specs.types.Equal.{declared_shapes}
 use Rattle.types_spec.specs.types.Reached.{reached_from}
-use Rattle.types_spec.proofs.types.AskedLemmas.{asked_is}
-use Rattle.types_spec.proofs.types.FaultLemmas.{named_is_needed}
-use Rattle.types_theory.proofs.equality.ReachedLemmas.{named_here, needs_named}
+use Rattle.types_spec.proofs.types.TypeAskedLemmas.{asked_is}
+use Rattle.types_spec.proofs.types.TypeFaultLemmas.{named_is_needed}
+use Rattle.types_theory.proofs.equality.EqualityReachedLemmas.{named_here, needs_named}
 use Rattle.types_theory.proofs.type_variables.InstanceFields.{fields_become, asked_becomes}
 
 module _ (decls : List Decl) (well : AreWellFormed decls) (value : List ℕ → Ty) (graph : List Obj)

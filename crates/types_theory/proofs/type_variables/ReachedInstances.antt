@@ -14,16 +14,16 @@ use Rattle.types_spec.specs.declared.types.shape.ShapeOf.{ShapeOf}
 use Rattle.types_spec.specs.types.Ty.{Ty, instance}
 use Rattle.types_spec.specs.types.Head.{head}
 use Rattle.types_spec.specs.types.Shape.{array_of, head_shape, shape}
-use Rattle.types_spec.specs.types.Accepted.{IsSoundType, AreWellFormed, AreKnownByHash}
+use Rattle.types_spec.specs.types.WellFormed.{IsSoundType, AreWellFormed, AreKnownByHash}
 use Rattle.types_spec.specs.types.Equal.{declared_shapes}
-use Rattle.types_spec.specs.types.Lawful.{AreLawful}
+use Rattle.types_spec.specs.types.LawfulShapes.{AreLawful}
 use Rattle.types_spec.specs.types.Reached.{named_in, parts_of, reached_from}
-use Rattle.types_spec.proofs.types.ShapeLemmas.{named_in-map}
+use Rattle.types_spec.proofs.types.TypeShapeLemmas.{named_in-map}
 use Rattle.types_spec.specs.types.Table.{head_with_parts}
 use Rattle.types_theory.proofs.equality.HeadMapLemmas.{parts_of-map}
-use Rattle.types_theory.proofs.equality.LawfulLemmas.{listed_lawful}
-use Rattle.types_theory.proofs.equality.ReachedLemmas.{parts_here, named_here}
-use Rattle.types_theory.proofs.equality.SoundLemmas.{sound-instance, shape_hashed, HashedShape}
+use Rattle.types_theory.proofs.equality.EqualityLawfulLemmas.{listed_lawful}
+use Rattle.types_theory.proofs.equality.EqualityReachedLemmas.{parts_here, named_here}
+use Rattle.types_theory.proofs.equality.EqualitySoundLemmas.{sound-instance, shape_hashed, HashedShape}
 use Rattle.types_theory.specs.type_variables.TypeVariables.{AreClosed}
 use Rattle.types_theory.proofs.type_variables.InstanceShapes.{Becomes, becomes, replaced, IsArray, Same, Commutes}
 

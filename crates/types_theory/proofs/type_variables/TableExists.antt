@@ -18,8 +18,8 @@ use Rattle.types_spec.specs.types.Equal.{Equal, Holds}
 use Rattle.types_spec.specs.types.Reached.{listed_if, named_in, reached_from}
 use Rattle.types_spec.specs.types.Table.{constr_with, tag_with_parts, with_parts, Table, IsTableOf}
 use Rattle.types_theory.proofs.equality.EqualLemmas.{equal_itself, equal_turned, equal_joined}
-use Rattle.types_theory.proofs.equality.ReachedLemmas.{parts_here, named_here}
-use Rattle.types_theory.proofs.equality.TableLemmas.{slice_get-mapped}
+use Rattle.types_theory.proofs.equality.EqualityReachedLemmas.{parts_here, named_here}
+use Rattle.types_theory.proofs.equality.EqualityTableLemmas.{slice_get-mapped}
 use Rattle.types_theory.proofs.equality.TyEquality.{types_same_or_not}
 use Rattle.types_theory.proofs.type_variables.EqualDecided.{OrNot, holds_or_not, AreEqualPairs, equal_pairs}
 

@@ -9,16 +9,16 @@ use Rattle.base_data.specs.declared.model.value.Val.TheVariants as vals
 use Rattle.base_data.specs.declared.model.value.Obj.{Obj}
 use Rattle.types_spec.specs.declared.types.fault.Fault.TheVariants.{Mismatch, Conflict}
 use Rattle.types_spec.specs.types.Shapes.{Shapes}
-use Rattle.types_spec.specs.types.Lawful.{AreLawful, Everything}
+use Rattle.types_spec.specs.types.LawfulShapes.{AreLawful, Everything}
 use Rattle.types_spec.specs.types.Typing.{field_at, IsListed, IsHeld, IsTyped}
 use Rattle.types_spec.specs.types.Fault.{type_of_field, step, value_at, IsBefore}
-use Rattle.types_spec.proofs.types.FaultLemmas.{named_is_needed}
+use Rattle.types_spec.proofs.types.TypeFaultLemmas.{named_is_needed}
 use Rattle.types_theory.specs.typing.Decidable.{AreDecidable, IsAmong, ReachesFew}
-use Rattle.types_theory.specs.typing.Complete.{HasFault, HasTypeOrFault, FaultsAreComplete}
+use Rattle.types_theory.specs.typing.CompleteFaults.{HasFault, HasTypeOrFault, FaultsAreComplete}
 use Rattle.types_theory.proofs.typing.Choices.{search_all, IsWithout, without}
-use Rattle.types_theory.proofs.typing.NeedLemmas.{needed_is_named}
-use Rattle.types_theory.proofs.typing.PathLemmas.{OneOfThree, value_at-push, paths_compare}
-use Rattle.types_theory.proofs.typing.ValueLemmas.{all_values, field_is_value, slots_of, slot_is_there}
+use Rattle.types_theory.proofs.typing.TypingNeedLemmas.{needed_is_named}
+use Rattle.types_theory.proofs.typing.TypingPathLemmas.{OneOfThree, value_at-push, paths_compare}
+use Rattle.types_theory.proofs.typing.TypingValueLemmas.{all_values, field_is_value, slots_of, slot_is_there}
 
 -- ---- the state of the search
 

@@ -9,12 +9,12 @@ use Rattle.base_data.specs.declared.model.value.Val.{Val}
 use Rattle.base_data.specs.declared.model.value.Val.TheVariants as vals
 use Rattle.base_data.specs.declared.model.value.Obj.{Obj}
 use Rattle.types_spec.specs.types.Shapes.{Shapes}
-use Rattle.types_spec.specs.types.Lawful.{Everything, AreLawful}
+use Rattle.types_spec.specs.types.LawfulShapes.{Everything, AreLawful}
 use Rattle.types_spec.specs.types.Typing.{field_at}
 use Rattle.types_spec.specs.types.Fault.{IsLexicallyBefore, IsBefore, type_of_field, step, value_at}
-use Rattle.types_spec.specs.types.Searched.{Entry, IsEntered, IsSearched}
-use Rattle.types_spec.proofs.types.FaultLemmas.{named_is_needed, paired}
-use Rattle.types_theory.proofs.typing.PathLemmas.{paths_compare}
+use Rattle.types_spec.specs.types.SearchedPaths.{Entry, IsEntered, IsSearched}
+use Rattle.types_spec.proofs.types.TypeFaultLemmas.{named_is_needed, paired}
+use Rattle.types_theory.proofs.typing.TypingPathLemmas.{paths_compare}
 
 -- ---- the order of paths
 

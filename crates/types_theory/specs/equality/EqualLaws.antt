@@ -5,10 +5,10 @@ use Rattle.types_spec.specs.declared.types.head.HeadOf.{HeadOf}
 use Rattle.types_spec.specs.types.Ty.{Ty}
 use Rattle.types_spec.specs.types.Declarations.{unfolded}
 use Rattle.types_spec.specs.types.Head.{head, plain_head}
-use Rattle.types_spec.specs.types.Accepted.{AreSound, AreKnownByHash}
+use Rattle.types_spec.specs.types.WellFormed.{AreSound, AreKnownByHash}
 use Rattle.types_spec.specs.types.Equal.{declared_shapes}
 use Rattle.types_spec.specs.types.Reached.{IsReached}
-use Rattle.types_spec.specs.types.Lawful.{AreLawful}
+use Rattle.types_spec.specs.types.LawfulShapes.{AreLawful}
 
 -- The expansion of an abbreviation at the head of a type does not change the type's head.
 abbrev pub ReplacementsLeaveTheHead : Type 0

@@ -6,8 +6,8 @@ use Rattle.types_spec.specs.declared.types.head.HeadOf.TheVariants as heads
 use Rattle.types_spec.specs.types.Ty.{Ty, instance}
 use Rattle.types_spec.specs.types.Declarations.{unfolded}
 use Rattle.types_spec.specs.types.Head.{head}
-use Rattle.types_spec.specs.types.Accepted.{IsWhole, TakeArguments, IsSoundType, AreWellFormed}
-use Rattle.types_spec.specs.types.Accepted.{AreKnownByHash}
+use Rattle.types_spec.specs.types.WellFormed.{IsWhole, TakeArguments, IsSoundType, AreWellFormed}
+use Rattle.types_spec.specs.types.WellFormed.{AreKnownByHash}
 use Rattle.types_spec.specs.types.Reached.{IsReached}
 use Rattle.types_spec.specs.types.Table.{head_with_parts}
 

@@ -5,13 +5,13 @@ use Rattle.base_data.specs.declared.model.value.Obj.{Obj}
 use Rattle.types_spec.specs.declared.types.fault.Fault.{Fault}
 use Rattle.types_spec.specs.declared.types.decl.Decl.{Decl}
 use Rattle.types_spec.specs.types.Ty.{Ty}
-use Rattle.types_spec.specs.types.Accepted.{AreSound, AreKnownByHash}
+use Rattle.types_spec.specs.types.WellFormed.{AreSound, AreKnownByHash}
 use Rattle.types_spec.specs.types.Equal.{declared_shapes}
 use Rattle.types_spec.specs.types.Fault.{IsFault}
 use Rattle.types_spec.specs.types.LeastFault.{IsLeastFault}
 use Rattle.types_spec.specs.types.Reached.{IsReached}
 use Rattle.types_spec.specs.types.Table.{Table, table_shapes, IsTableOf}
-use Rattle.types_spec.specs.types.Lawful.{AreLawful, Everything}
+use Rattle.types_spec.specs.types.LawfulShapes.{AreLawful, Everything}
 
 -- Over accepted declarations, a table of the types that a type reaches has lawful shapes.
 abbrev pub TablesAreLawful : Type 0

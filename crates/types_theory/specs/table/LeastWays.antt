@@ -3,7 +3,7 @@ use Rattle.std.specs.Prelude.{ℕ, List}
 use Rattle.base_data.specs.declared.model.value.Val.{Val}
 use Rattle.base_data.specs.declared.model.value.Obj.{Obj}
 use Rattle.types_spec.specs.declared.types.fault.Fault.{Fault}
-use Rattle.types_spec.specs.types.Lawful.{AreLawful, Everything}
+use Rattle.types_spec.specs.types.LawfulShapes.{AreLawful, Everything}
 use Rattle.types_spec.specs.types.LeastFault.{IsLeastFault}
 use Rattle.types_spec.specs.types.Table.{Table, table_shapes}
 use Rattle.types_theory.specs.typing.LeastWay.{AreLeastWays}

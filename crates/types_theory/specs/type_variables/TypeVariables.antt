@@ -6,7 +6,7 @@ use Rattle.base_data.specs.declared.model.value.Obj.{Obj}
 use Rattle.types_spec.specs.declared.types.decl.Decl.{Decl}
 use Rattle.types_spec.specs.declared.types.fault.Fault.{Fault}
 use Rattle.types_spec.specs.types.Ty.{Ty, instance}
-use Rattle.types_spec.specs.types.Accepted.{IsSoundType, VariablesAmong, AreWellFormed}
+use Rattle.types_spec.specs.types.WellFormed.{IsSoundType, VariablesAmong, AreWellFormed}
 use Rattle.types_spec.specs.types.Equal.{declared_shapes}
 use Rattle.types_spec.specs.types.Fault.{IsFault}
 use Rattle.types_spec.specs.types.Reached.{reached_from, IsReached}

@@ -4,11 +4,11 @@ use Rattle.std.specs.Prelude.{ℕ, List}
 use Rattle.base_data.specs.declared.model.value.Val.{Val}
 use Rattle.base_data.specs.declared.model.value.Obj.{Obj}
 use Rattle.types_spec.specs.declared.types.fault.Fault.TheVariants.{Mismatch, Conflict}
-use Rattle.types_spec.specs.types.Lawful.{AreLawful, Everything}
+use Rattle.types_spec.specs.types.LawfulShapes.{AreLawful, Everything}
 use Rattle.types_spec.specs.types.Fault.{IsBefore, IsMismatch}
 use Rattle.types_spec.specs.types.LeastFault.{IsLeastFault}
 use Rattle.types_spec.specs.types.Table.{Table, table_shapes}
-use Rattle.types_spec.specs.types.Searched.{Entry, IsSearched, AreLeastConflicting}
+use Rattle.types_spec.specs.types.SearchedPaths.{Entry, IsSearched, AreLeastConflicting}
 
 -- If a search has covered all paths before a type mismatch, then the type mismatch is the least
 -- fault.

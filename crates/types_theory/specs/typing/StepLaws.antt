@@ -3,7 +3,7 @@ use Rattle.std.specs.Prelude.{ℕ, ◌+◌, ◌<◌, ◌≤◌, ◌≡◌, List,
 use Rattle.std.specs.Prelude.{sum_by, Contains}
 use Rattle.base_data.specs.declared.model.value.Val.TheVariants as vals
 use Rattle.base_data.specs.declared.model.value.Obj.{Obj}
-use Rattle.types_spec.specs.types.Steps.{most_steps}
+use Rattle.types_spec.specs.types.StepBounds.{most_steps}
 use Rattle.types_spec.specs.types.Table.{Table, table_shapes}
 
 -- No element of the list occurs at two positions.

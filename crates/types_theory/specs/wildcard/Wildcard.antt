@@ -7,7 +7,7 @@ use Rattle.types_spec.specs.declared.types.decl.Body.TheVariants as bodies
 use Rattle.types_spec.specs.declared.types.decl.Decl.{Decl}
 use Rattle.types_spec.specs.declared.types.head.HeadOf.{HeadOf}
 use Rattle.types_spec.specs.declared.types.head.HeadOf.TheVariants as heads
-use Rattle.types_spec.specs.types.Accepted.{AreWellFormed}
+use Rattle.types_spec.specs.types.WellFormed.{AreWellFormed}
 use Rattle.types_spec.specs.types.Declarations.{declaration_of, abbreviated}
 use Rattle.types_spec.specs.types.Equal.{declared_shapes}
 use Rattle.types_spec.specs.types.Head.{head}

@@ -4,21 +4,21 @@ use Rattle.std.proofs.Common.{ℕ, ◌≡◌, ◌∙◌, List, Option, Some, Non
 use Rattle.std.specs.Prelude.{Contains, option_map}
 use Rattle.std.proofs.lemmas.Option.{same_Some, none-some}
 use Rattle.types_spec.specs.declared.types.decl.Decl.{Decl}
-use Rattle.types_spec.specs.types.Accepted.{IsType, types_of_body, AreSound, IsSoundType, AreWellFormed, VariablesAmong}
+use Rattle.types_spec.specs.types.WellFormed.{IsType, types_of_body, AreSound, IsSoundType, AreWellFormed, VariablesAmong}
 use Rattle.types_spec.specs.types.Declarations.{predeclared, declaration_of}
 use Rattle.types_spec.specs.types.Occurrence.{Occurrence, DeclPositions}
 use Rattle.types_spec.specs.types.Scope.{twice, unknown_name, arity, unbound_variable, cyclic, not_variant, hash_clash, decls_of, BreaksInFile, KeepsAll, BreaksInType}
 use Rattle.types_spec.specs.types.Ty.{Ty}
-use Rattle.types_theory.proofs.equality.NeedLemmas.{head_plain}
+use Rattle.types_theory.proofs.equality.EqualityNeedLemmas.{head_plain}
 use Rattle.types_theory.proofs.equality.RankedLemmas.{are_ranked}
-use Rattle.types_wellformed.specs.accepted.Brackets.{HeadsArePlain, BracketsAreSound}
-use Rattle.types_wellformed.specs.accepted.Names.{NamesAreSound}
+use Rattle.types_wellformed.specs.accepted.AcceptedBrackets.{HeadsArePlain, BracketsAreSound}
+use Rattle.types_wellformed.specs.accepted.AcceptedNames.{NamesAreSound}
 use Rattle.types_wellformed.specs.accepted.Ranked.{Keeps}
-use Rattle.types_wellformed.specs.accepted.Known.{IsProper, ReportsAll}
+use Rattle.types_wellformed.specs.accepted.KnownThings.{IsProper, ReportsAll}
 use Rattle.types_wellformed.specs.accepted.Accepted.{IsWritten, AreKnownWhole}
-use Rattle.types_wellformed.proofs.accepted.RankLemmas.{ranks_follow_lem, found, found_named, found_decl}
-use Rattle.types_wellformed.proofs.accepted.NameLemmas.{arguments_follow, names_follow_lem}
-use Rattle.types_wellformed.proofs.accepted.BracketLemmas.{brackets_follow_in, brackets_follow_lem}
+use Rattle.types_wellformed.proofs.accepted.AcceptedRankLemmas.{ranks_follow_lem, found, found_named, found_decl}
+use Rattle.types_wellformed.proofs.accepted.AcceptedNameLemmas.{arguments_follow, names_follow_lem}
+use Rattle.types_wellformed.proofs.accepted.AcceptedBracketLemmas.{brackets_follow_in, brackets_follow_lem}
 
 module _ (all : List DeclPositions) (reported : AreKnownWhole all) where
   -- A declaration with its occurrences.

@@ -11,15 +11,15 @@ use Rattle.std.proofs.lemmas.List.Elements.{Contains-append_cases}
 use Rattle.std.proofs.lemmas.Option.{same_Some, slice_get_within, slice_get_read}
 use Rattle.types_spec.specs.declared.types.head.TagOf.{TagOf}
 use Rattle.types_resolve.specs.scope.Least.{IsLeast, earliest, position_if}
-use Rattle.types_resolve.proofs.scope.LeastLemmas.{Before, least_same, least_if, least_more}
+use Rattle.types_resolve.proofs.scope.ScopeLeastLemmas.{Before, least_same, least_if, least_more}
 use Rattle.types_wellformed.specs.declared.brackets.tag_item.TagItem.{TagItem}
 use Rattle.types_wellformed.specs.declared.brackets.tag_names.Collision.{Collision}
 use Rattle.types_wellformed.specs.brackets.Collisions.{position_of, IsCollision, IsLeastCollision}
-use Rattle.types_wellformed.specs.brackets.Items.{ConflictsIn, CollideIn, CollidesIn, HaveOneHash}
+use Rattle.types_wellformed.specs.brackets.TagItems.{ConflictsIn, CollideIn, CollidesIn, HaveOneHash}
 use Rattle.types_wellformed.specs.brackets.Sightings.{Reports}
-use Rattle.types_wellformed.specs.brackets.Tables.{ArgumentTable, arguments_at, HasArgument, AreArguments}
-use Rattle.types_wellformed.specs.brackets.Tables.{SomeConflicts, EncodingTable, tag_names_at, HasEncoding}
-use Rattle.types_wellformed.specs.brackets.Tables.{AreTagNames, AreColliding}
+use Rattle.types_wellformed.specs.brackets.TagTables.{ArgumentTable, arguments_at, HasArgument, AreArguments}
+use Rattle.types_wellformed.specs.brackets.TagTables.{SomeConflicts, EncodingTable, tag_names_at, HasEncoding}
+use Rattle.types_wellformed.specs.brackets.TagTables.{AreTagNames, AreColliding}
 
 -- ---- the tags contributed so far
 

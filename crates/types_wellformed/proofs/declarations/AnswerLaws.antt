@@ -7,14 +7,14 @@ use Rattle.types_lex.specs.declared.lexeme.Lexeme.{Lexeme}
 use Rattle.types_lex.specs.declared.lexeme.LexFault.{LexFault}
 use Rattle.types_lex.proofs.PartLaws.{has_one_outcome}
 use Rattle.types_spec.specs.types.Scope.{Rule, turn, IsFirst}
-use Rattle.types_resolve.proofs.scope.FirstLemmas.{same_turn}
+use Rattle.types_resolve.proofs.scope.ScopeFirstLemmas.{same_turn}
 use Rattle.types_parse.specs.grammar.Grammar.{Kinds}
-use Rattle.types_parse.specs.grammar.Refusals.{Reading, text_read, syntax_at, too_deep_at, IsReading}
+use Rattle.types_parse.specs.grammar.Refusals.{TextReading, text_read, syntax_at, too_deep_at, IsReading}
 use Rattle.types_parse.specs.grammar.Laws.{HasOneReading}
-use Rattle.types_parse.specs.grammar.Lexemes.{kinds_of}
+use Rattle.types_parse.specs.grammar.LexemeKinds.{kinds_of}
 use Rattle.types_parse.specs.parse.Parsed.{byte_of}
-use Rattle.types_wellformed.specs.declarations.Answer.{Answer, accepted, no_lexemes, no_text, too_deep, broken}
-use Rattle.types_wellformed.specs.declarations.Answer.{IsJudged, IsRead, IsLexed, IsAnswer, HasOneAnswer}
+use Rattle.types_wellformed.specs.declarations.DeclarationAnswer.{DeclarationAnswer, accepted, no_lexemes, no_text, too_deep, broken}
+use Rattle.types_wellformed.specs.declarations.DeclarationAnswer.{IsJudged, IsRead, IsLexed, IsAnswer, HasOneAnswer}
 
 -- ---- one violation comes first
 
@@ -42,7 +42,7 @@ module _ {Tree : Type 0} (encoded : Tree → Kinds) (ends : Tree → List ℕ) (
       (lexemes : List Lexeme) (end : ℕ) (tree : Tree) (one other : Rule) (j k : ℕ)
       → IsJudged encoded ends Breaks lexemes end tree (broken one j)
       → IsJudged encoded ends Breaks lexemes end tree (broken other k)
-      → ◌≡◌ {A = Answer Tree} (broken one j) (broken other k)
+      → ◌≡◌ {A = DeclarationAnswer Tree} (broken one j) (broken other k)
   one_broken lexemes end tree one other j k (a, first, at) (b, second, there) =
       let rule = one_first_rule (Breaks tree) one other a b first second in
       let same = subst (λ r. IsFirst (Breaks tree) r b) (sym rule) second in
@@ -50,7 +50,7 @@ module _ {Tree : Type 0} (encoded : Tree → Kinds) (ends : Tree → List ℕ) (
       ap (λ r. broken r j) rule ∙ ap (broken other) position
 
   one_judged :
-      (lexemes : List Lexeme) (end : ℕ) (tree : Tree) (one other : Answer Tree)
+      (lexemes : List Lexeme) (end : ℕ) (tree : Tree) (one other : DeclarationAnswer Tree)
       → IsJudged encoded ends Breaks lexemes end tree one
       → IsJudged encoded ends Breaks lexemes end tree other → one ≡ other
   one_judged lexemes end tree (accepted t) (accepted u) one other = ap accepted (sym one.0 ∙ other.0)
@@ -68,7 +68,7 @@ module _ {Tree : Type 0} (encoded : Tree → Kinds) (ends : Tree → List ℕ) (
   one_judged lexemes end tree (broken rule j) (broken more k) one other = one_broken lexemes end tree rule more j k one other
 
   one_read :
-      (lexemes : List Lexeme) (end : ℕ) (reading : Reading Tree) (one other : Answer Tree)
+      (lexemes : List Lexeme) (end : ℕ) (reading : TextReading Tree) (one other : DeclarationAnswer Tree)
       → IsRead encoded ends Breaks lexemes end reading one
       → IsRead encoded ends Breaks lexemes end reading other → one ≡ other
   one_read lexemes end (text_read tree) one other first second = one_judged lexemes end tree one other first second
@@ -76,11 +76,11 @@ module _ {Tree : Type 0} (encoded : Tree → Kinds) (ends : Tree → List ℕ) (
   one_read lexemes end (too_deep_at k) one other first second = sym first ∙ second
 
   module _ (readings : HasOneReading encoded ends) where
-    one_reading_of : (lexemes : Kinds) (r s : Reading Tree) → IsReading encoded ends lexemes r → IsReading encoded ends lexemes s → s ≡ r
+    one_reading_of : (lexemes : Kinds) (r s : TextReading Tree) → IsReading encoded ends lexemes r → IsReading encoded ends lexemes s → s ≡ r
     one_reading_of lexemes r s one other = let first = readings lexemes in first.2 s other ∙ sym (first.2 r one)
 
     one_lexed :
-        (end : ℕ) (outcome : Result (List Lexeme) LexFault) (one other : Answer Tree)
+        (end : ℕ) (outcome : Result (List Lexeme) LexFault) (one other : DeclarationAnswer Tree)
         → IsLexed encoded ends Breaks end outcome one
         → IsLexed encoded ends Breaks end outcome other → one ≡ other
     one_lexed end (Ok lexemes) one other (r, read, first) (s, more, second) =

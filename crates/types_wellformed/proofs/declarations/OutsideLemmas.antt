@@ -4,14 +4,14 @@ use Rattle.std.proofs.Common.{ℕ, suc, ◌≡◌, ◌≤◌, ◌+◌, ◌⊎◌
 use Rattle.std.specs.Prelude.{Contains, max}
 use Rattle.std.proofs.lemmas.List.Elements.{Contains-append_left, Contains-append_right, Contains-append_cases}
 use Rattle.base_data.proofs.model.Options.{Contains-first, Contains-later, Contains-none, Contains-cases}
-use Rattle.types_parse.specs.grammar.Grammar.{Texpr, App, Simple, Texprs, Items, Item, texpr, app, texprs, items, bar_if}
+use Rattle.types_parse.specs.grammar.Grammar.{Texpr, App, Simple, Texprs, Items, ItemTree, texpr, app, texprs, items, bar_if}
 use Rattle.types_parse.specs.grammar.Grammar as trees
 use Rattle.types_parse.specs.grammar.Depths.{texpr_depth, part_depth, app_depth, simple_depth, texprs_depth, items_depth, item_depth}
-use Rattle.types_spec.specs.types.Accepted.{IsWhole, IsType, names_outside}
+use Rattle.types_spec.specs.types.WellFormed.{IsWhole, IsType, names_outside}
 use Rattle.types_spec.specs.types.Occurrence.{Occurrence, use_of, bracket_of}
 use Rattle.types_spec.specs.types.Ty.{Ty, bracket}
 use Rattle.types_spec.specs.types.Ty.{depth}
-use Rattle.types_parse.specs.parse.Written.{type_of_texpr, tuple_of, type_of_app, type_of_simple, applied_to, type_of_items, with_item}
+use Rattle.types_parse.specs.parse.WrittenTrees.{type_of_texpr, tuple_of, type_of_app, type_of_simple, applied_to, type_of_items, with_item}
 use Rattle.types_parse.specs.parse.TypeShown.{types_of_texprs}
 use Rattle.types_resolve.specs.occurrences.InText.{placed_items, in_texpr, in_app, in_simple, in_texprs, in_items, in_item}
 
@@ -115,7 +115,7 @@ mutual
   items_used k (trees.more all i) = item_used (k + length (items all) + 1) (type_of_items all) i (in_items k false all) (items_used k all)
 
   item_used :
-      (k : ℕ) (whole : Ty) (i : Item) (before : List Occurrence) → AreUsed before (names_outside whole)
+      (k : ℕ) (whole : Ty) (i : ItemTree) (before : List Occurrence) → AreUsed before (names_outside whole)
       → AreUsed (before ++ in_item k false i) (names_outside (with_item whole i))
   item_used k whole (trees.tag x) before used = λ name among. used_left before [] name (used name among)
   item_used k whole (trees.tag_of x t) before used = λ name among. used_left before (in_texpr (k + 2) true t) name (used name among)
@@ -155,7 +155,7 @@ mutual
   items_whole (trees.one i) = item_whole bracket i tt
   items_whole (trees.more all i) = item_whole (type_of_items all) i (items_whole all)
 
-  item_whole : (whole : Ty) (i : Item) → IsWhole whole → IsWhole (with_item whole i)
+  item_whole : (whole : Ty) (i : ItemTree) → IsWhole whole → IsWhole (with_item whole i)
   item_whole whole (trees.tag x) is = is
   item_whole whole (trees.tag_of x t) is = (is, texpr_type t)
   item_whole whole (trees.included a) is = (is, app_type a)
@@ -194,7 +194,7 @@ mutual
   items_shallow (trees.more all i) =
       item_shallow (type_of_items all) i (max (items_depth all) (item_depth i)) (omega (arith, items_shallow all)) (omega arith)
 
-  item_shallow : (whole : Ty) (i : Item) (n : ℕ) → depth whole ≤ suc n → item_depth i ≤ n → depth (with_item whole i) ≤ suc n
+  item_shallow : (whole : Ty) (i : ItemTree) (n : ℕ) → depth whole ≤ suc n → item_depth i ≤ n → depth (with_item whole i) ≤ suc n
   item_shallow whole (trees.tag x) n less within = less
   item_shallow whole (trees.tag_of x t) n less within = omega (arith, less, within, texpr_shallow t)
   item_shallow whole (trees.included a) n less within = omega (arith, less, within, app_shallow a)

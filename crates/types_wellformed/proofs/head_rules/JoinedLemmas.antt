@@ -8,16 +8,16 @@ use Rattle.base_data.proofs.model.Lists.{map-slice_get}
 use Rattle.types_spec.specs.declared.types.decl.Decl.{Decl}
 use Rattle.types_spec.specs.declared.types.head.TagOf.{TagOf}
 use Rattle.types_spec.specs.types.Ty.{Ty, tuple}
-use Rattle.types_spec.specs.types.Nodes.{type_at}
+use Rattle.types_spec.specs.types.TypeNodes.{type_at}
 use Rattle.types_spec.specs.types.Occurrence.{PlacedItem}
 use Rattle.types_spec.specs.types.Scope.{Rule, turn, not_variant, tag_clash, hash_clash, tags_of_item, HasTags}
 use Rattle.types_resolve.specs.scope.Least.{IsLeast}
-use Rattle.types_resolve.proofs.scope.LeastLemmas.{least_same}
+use Rattle.types_resolve.proofs.scope.ScopeLeastLemmas.{least_same}
 use Rattle.types_table.specs.store.Held.{Grows}
-use Rattle.types_table.proofs.store.HeldLemmas.{there_kept}
+use Rattle.types_table.proofs.store.StoreHeldLemmas.{there_kept}
 use Rattle.types_wellformed.specs.declared.brackets.tag_item.TagItem.{TagItem}
 use Rattle.types_wellformed.specs.declared.brackets.tag_names.Collision.{Collision}
-use Rattle.types_wellformed.specs.brackets.Items.{ConflictsIn}
+use Rattle.types_wellformed.specs.brackets.TagItems.{ConflictsIn}
 use Rattle.types_wellformed.specs.declared.head_rules.broken.HeadBreak.{HeadBreak}
 use Rattle.types_wellformed.specs.declared.head_rules.broken.HeadBreak.TheVariants as breaks
 use Rattle.types_wellformed.specs.declared.head_rules.item.NumberedItem.{NumberedItem}
@@ -25,9 +25,9 @@ use Rattle.types_wellformed.specs.head_rules.Broken.{IsFirstOfHeads}
 use Rattle.types_wellformed.specs.head_rules.Rules.{SomeBreaks, ItemsInclude, AreTagged, CollideAmong, IsLeastAmong, TagsBreak}
 use Rattle.types_wellformed.specs.head_rules.Apart.{AreApart, StandApart}
 use Rattle.types_wellformed.specs.head_rules.Rules.{IsWithin, AreWithin, AreAllWithin, item_at, items_at, brackets_at, BracketsBreak, BracketsHash}
-use Rattle.types_wellformed.proofs.head_rules.FirstLemmas.{of_late, all_agree, found_first}
+use Rattle.types_wellformed.proofs.head_rules.HeadRuleFirstLemmas.{of_late, all_agree, found_first}
 use Rattle.types_wellformed.proofs.head_rules.VariantLemmas.{include_agree, brackets_at-kept}
-use Rattle.types_wellformed.proofs.head_rules.TagLemmas.{tags_agree, names_agree}
+use Rattle.types_wellformed.proofs.head_rules.HeadRuleTagLemmas.{tags_agree, names_agree}
 use Rattle.types_build.proofs.representation.NearerLemmas.{type_kept}
 
 -- ---- tags

@@ -4,10 +4,10 @@ use Rattle.std.specs.Prelude.{option_and_then}
 use Rattle.std.proofs.lemmas.Option.{none-some, same_Some}
 use Rattle.types_spec.specs.declared.types.decl.Decl.{Decl}
 use Rattle.types_spec.specs.types.Ty.{Ty, name_of}
-use Rattle.types_spec.specs.types.Nodes.{type_at}
+use Rattle.types_spec.specs.types.TypeNodes.{type_at}
 use Rattle.types_spec.specs.types.Declarations.{declaration_of, unfolded, unfolded_times}
 use Rattle.types_spec.specs.types.Scope.{IsThrough}
-use Rattle.types_build.specs.representation.Way.{IsOfAt, Way, IsNearer}
+use Rattle.types_build.specs.representation.AbbreviationWay.{IsOfAt, Way, IsNearer}
 use Rattle.types_wellformed.specs.head_rules.Rules.{IsOwnDecl, IsOwn}
 
 module _ (decls : List Decl) (group : ℕ) where

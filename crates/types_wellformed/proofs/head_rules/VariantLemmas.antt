@@ -8,15 +8,15 @@ use Rattle.std.proofs.lemmas.Option.{slice_get-get_or, get_or_from_slice_get}
 use Rattle.base_data.proofs.model.Options.{Contains-map, map-Contains}
 use Rattle.types_spec.specs.declared.types.decl.Decl.{Decl}
 use Rattle.types_spec.specs.types.Ty.{Ty, tuple}
-use Rattle.types_spec.specs.types.Nodes.{type_at, type_of_node}
+use Rattle.types_spec.specs.types.TypeNodes.{type_at, type_of_node}
 use Rattle.types_spec.specs.types.Occurrence.{PlacedItem}
 use Rattle.types_spec.specs.types.Scope.{not_variant}
 use Rattle.types_resolve.specs.scope.Least.{IsLeast, earliest, position_if}
-use Rattle.types_resolve.proofs.scope.LeastLemmas.{Before, AtItem, more_tested, least_same}
+use Rattle.types_resolve.proofs.scope.ScopeLeastLemmas.{Before, AtItem, more_tested, least_same}
 use Rattle.types_table.specs.declared.store.stored_node.TypeNode.{TypeNode}
 use Rattle.types_table.specs.declared.store.stored_node.TypeNode.TheVariants as borrowed
 use Rattle.types_table.specs.store.Held.{Grows}
-use Rattle.types_table.specs.store.Borrowed.{written_of}
+use Rattle.types_table.specs.store.BorrowedNode.{written_of}
 use Rattle.types_wellformed.specs.declared.head_rules.item.NumberedItem.{NumberedItem}
 use Rattle.types_wellformed.specs.head_rules.Rules.{IsWithin, AreWithin, AreAllWithin, item_at, items_at, brackets_at, IncludesOther, IncludesOtherAt}
 use Rattle.types_wellformed.specs.head_rules.Rules.{ItemsInclude, SomeBreaks, ItemsBreak, BracketsBreak}

@@ -2,12 +2,12 @@
 -- sound.
 use Rattle.std.specs.Prelude.{◌≤◌, List, Contains}
 use Rattle.types_spec.specs.declared.types.decl.Decl.{Decl}
-use Rattle.types_spec.specs.types.Accepted.{IsType, types_of_body, AreWellFormed, IsSoundType}
+use Rattle.types_spec.specs.types.WellFormed.{IsType, types_of_body, AreWellFormed, IsSoundType}
 use Rattle.types_spec.specs.types.Occurrence.{Occurrence, DeclPositions}
 use Rattle.types_spec.specs.types.Scope.{decls_of, BreaksInType, BreaksInFile, KeepsAll}
 use Rattle.types_spec.specs.types.Ty.{Ty, depth}
 use Rattle.types_wellformed.specs.accepted.Ranked.{UsesAreKnown}
-use Rattle.types_wellformed.specs.accepted.Known.{IsProper, ReportsAll, AllIsKnown}
+use Rattle.types_wellformed.specs.accepted.KnownThings.{IsProper, ReportsAll, AllIsKnown}
 
 -- The grammar can produce the type, and the type is at most 200 deep.
 pub record IsWritten (t : Ty) : Type 0 where

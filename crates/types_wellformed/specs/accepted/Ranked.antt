@@ -1,6 +1,6 @@
 -- If no abbreviation is cyclic, then the names of abbreviations have ranks.
 use Rattle.std.specs.Prelude.{ℕ, ◌≡◌, List, Some, Contains, false}
-use Rattle.types_spec.specs.types.Accepted.{names_outside, IsRanking}
+use Rattle.types_spec.specs.types.WellFormed.{names_outside, IsRanking}
 use Rattle.types_spec.specs.types.Declarations.{abbreviated}
 use Rattle.types_spec.specs.types.Occurrence.{DeclPositions, use_of}
 use Rattle.types_spec.specs.types.Scope.{Rule, twice, unknown_name, cyclic, decls_of, BreaksInFile}

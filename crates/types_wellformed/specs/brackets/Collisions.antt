@@ -3,7 +3,7 @@ use Rattle.std.specs.Prelude.{ℕ, List, Option, IfSome, option_map}
 use Rattle.types_resolve.specs.scope.Least.{IsLeast}
 use Rattle.types_wellformed.specs.declared.brackets.tag_item.TagItem.{TagItem}
 use Rattle.types_wellformed.specs.declared.brackets.tag_names.Collision.{Collision}
-use Rattle.types_wellformed.specs.brackets.Items.{CollideIn, CollidesIn}
+use Rattle.types_wellformed.specs.brackets.TagItems.{CollideIn, CollidesIn}
 
 abbrev pub position_of : Option Collision → Option ℕ
 position_of found = option_map (λ (c : Collision). c.position) found

@@ -11,7 +11,7 @@ use Rattle.types_resolve.specs.scope.Least.{IsLeast}
 use Rattle.types_wellformed.specs.declared.brackets.tag_item.TagItem.{TagItem}
 use Rattle.types_wellformed.specs.declared.brackets.tag_names.Collision.{Collision}
 use Rattle.types_wellformed.specs.brackets.Collisions.{position_of}
-use Rattle.types_wellformed.specs.brackets.Items.{HaveOneHash}
+use Rattle.types_wellformed.specs.brackets.TagItems.{HaveOneHash}
 
 -- ---- items by numbers
 

@@ -6,14 +6,14 @@ use Rattle.types_spec.specs.declared.types.decl.Decl.{Decl}
 use Rattle.types_parse.specs.grammar.Grammar.{FileTree, file_kinds, Texpr, texpr}
 use Rattle.types_parse.specs.grammar.Depths.{file_ends, texpr_ends}
 use Rattle.types_parse.specs.grammar.Refusals.{IsText}
-use Rattle.types_parse.specs.grammar.Lexemes.{kinds_of}
-use Rattle.types_parse.specs.parse.Written.{declarations_of, type_of_texpr}
+use Rattle.types_parse.specs.grammar.LexemeKinds.{kinds_of}
+use Rattle.types_parse.specs.parse.WrittenTrees.{declarations_of, type_of_texpr}
 use Rattle.types_resolve.specs.occurrences.Counted.{marks}
 use Rattle.types_resolve.specs.occurrences.InFile.{file_positions}
 use Rattle.types_resolve.specs.occurrences.InText.{in_texpr}
 use Rattle.types_resolve.specs.scope.First.{KeepsBefore}
-use Rattle.types_wellformed.specs.declared.declarations.read.Named.{Named}
-use Rattle.types_wellformed.specs.declared.declarations.read.NamedType.{NamedType}
+use Rattle.types_wellformed.specs.declared.declarations.named_declarations.Named.{Named}
+use Rattle.types_wellformed.specs.declared.declarations.named_declarations.NamedType.{NamedType}
 
 -- The text is a file that breaks no rule on names. `named` contains the lexemes, marks and
 -- declarations of the text.

@@ -3,8 +3,9 @@ use Rattle.std.specs.Prelude.{ℕ, ◌≡◌, List}
 use Rattle.types_spec.specs.types.Ty.{Ty}
 use Rattle.types_spec.specs.declared.types.decl.Decl.{Decl}
 use Rattle.types_parse.specs.grammar.Grammar.{FileTree, Texpr}
-use Rattle.types_parse.specs.parse.Written.{declarations_of, type_of_texpr}
-use Rattle.types_wellformed.specs.declarations.Answer.{accepted, IsFileAnswer, IsTypeAnswer}
+use Rattle.types_parse.specs.parse.WrittenTrees.{declarations_of, type_of_texpr}
+use Rattle.types_wellformed.specs.declarations.DeclarationAnswer.{accepted, IsFileAnswer}
+use Rattle.types_wellformed.specs.declarations.DeclarationAnswer.{IsTypeAnswer}
 
 -- The text is accepted as a tree whose declarations are `decls`.
 pub record IsDeclared (text : List ℕ) (decls : List Decl) : Type 0 where

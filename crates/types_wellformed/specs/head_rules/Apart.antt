@@ -7,13 +7,13 @@ use Rattle.types_spec.specs.declared.types.decl.Decl.{Decl}
 use Rattle.types_spec.specs.declared.types.head.TagOf.{TagOf}
 use Rattle.types_spec.specs.types.Ty.{Ty, variable, named, tuple, bracket, part, tag, tag_of}
 use Rattle.types_spec.specs.types.Ty.{including}
-use Rattle.types_spec.specs.types.Nodes.{type_at}
+use Rattle.types_spec.specs.types.TypeNodes.{type_at}
 use Rattle.types_spec.specs.types.Declarations.{abbreviated}
 use Rattle.types_spec.specs.types.Head.{bare_tag, carrying_tag}
 use Rattle.types_spec.specs.types.Scope.{tags_of_item}
 use Rattle.types_spec.specs.types.Table.{tag_with_part}
 use Rattle.types_wellformed.specs.declared.brackets.tag_item.TagItem.{TagItem}
-use Rattle.types_wellformed.specs.brackets.Items.{ConflictsIn, CollidesIn}
+use Rattle.types_wellformed.specs.brackets.TagItems.{ConflictsIn, CollidesIn}
 
 -- ---- types without variables
 

@@ -3,7 +3,7 @@ use Rattle.std.specs.Prelude.{ℕ, List}
 use Rattle.std.specs.Coded.{×_prop, Π_prop, Unit-prop, le_prop}
 use Rattle.types_spec.specs.declared.types.ty.TypeTreeNode.{TypeTreeNode}
 use Rattle.types_spec.specs.declared.types.ty.TypeTreeNode.TheVariants as nodes
-use Rattle.types_spec.specs.types.Nodes.{IsBelow, AreOrdered}
+use Rattle.types_spec.specs.types.TypeNodes.{IsBelow, AreOrdered}
 
 pub IsBelow-prop : (n : ℕ) (node : TypeTreeNode) → IsProp (IsBelow n node)
 IsBelow-prop n (nodes.Variable name) = Unit-prop

@@ -7,8 +7,8 @@ use Rattle.types_spec.specs.declared.types.head.HeadOf.TheVariants as heads
 use Rattle.types_spec.specs.declared.types.head.TagOf.{TagOf}
 use Rattle.types_spec.specs.types.Ty.{Ty, including, name_of}
 use Rattle.types_spec.specs.types.Declarations.{declaration_of, abbreviated}
-use Rattle.types_spec.specs.types.Nodes.{type_at}
-use Rattle.types_spec.specs.types.Accepted.{AreVariants}
+use Rattle.types_spec.specs.types.TypeNodes.{type_at}
+use Rattle.types_spec.specs.types.WellFormed.{AreVariants}
 use Rattle.types_spec.specs.types.Head.{head}
 use Rattle.types_spec.specs.types.Occurrence.{Placed, PlacedItem}
 use Rattle.types_spec.specs.types.Reached.{AreDistinct}
@@ -18,7 +18,7 @@ use Rattle.types_resolve.specs.scope.Least.{IsLeast}
 use Rattle.types_wellformed.specs.declared.brackets.tag_item.TagItem.{TagItem}
 use Rattle.types_wellformed.specs.declared.brackets.tag_names.Collision.{Collision}
 use Rattle.types_wellformed.specs.brackets.Collisions.{position_of}
-use Rattle.types_wellformed.specs.brackets.Items.{ConflictsIn, CollideIn, CollidesIn}
+use Rattle.types_wellformed.specs.brackets.TagItems.{ConflictsIn, CollideIn, CollidesIn}
 use Rattle.types_wellformed.specs.brackets.Trees.{typed_item, written_item, NamesHashAt}
 use Rattle.types_wellformed.specs.declared.head_rules.item.NumberedItem.{NumberedItem}
 

@@ -2,8 +2,8 @@
 
 ghost use Rattle.types_wellformed.specs.accepted.Accepted.{AcceptedAreWellFormed};
 ghost use Rattle.types_wellformed.specs.accepted.Accepted.{AcceptedTypesAreSound};
-ghost use Rattle.types_wellformed.specs.accepted.Brackets.{BracketsFollow};
-ghost use Rattle.types_wellformed.specs.accepted.Names.{NamesFollow};
+ghost use Rattle.types_wellformed.specs.accepted.AcceptedBrackets.{BracketsFollow};
+ghost use Rattle.types_wellformed.specs.accepted.AcceptedNames.{NamesFollow};
 ghost use Rattle.types_wellformed.specs.accepted.Ranked.{RanksFollow};
 
 /// States that acyclic abbreviations can be ranked: some rank of names decreases from each

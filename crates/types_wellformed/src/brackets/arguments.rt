@@ -3,8 +3,8 @@
 ghost use Rattle.std.specs.Prelude.{ℕ, ◌++◌, ◌↔◌, List, IfOk, OnOk, IsTrue};
 ghost use Rattle.types_spec.specs.declared.types.head.TagOf.{TagOf as Tag};
 ghost use Rattle.types_resolve.specs.scope.Least.{IsLeast};
-ghost use Rattle.types_wellformed.specs.brackets.Items.{ConflictsIn};
-ghost use Rattle.types_wellformed.specs.brackets.Tables.{AreArguments, SomeConflicts};
+ghost use Rattle.types_wellformed.specs.brackets.TagItems.{ConflictsIn};
+ghost use Rattle.types_wellformed.specs.brackets.TagTables.{AreArguments, SomeConflicts};
 ghost use Rattle.types_wellformed.specs.brackets.Trees.{IsLeastConflictOf};
 
 use crate::brackets::sightings::{Sightings, add, empty, other};

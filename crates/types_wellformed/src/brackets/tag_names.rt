@@ -3,7 +3,7 @@
 ghost use Rattle.std.specs.Prelude.{ℕ, ◌≡◌, ◌++◌, ◌⊎◌, List, IfOk, OnOk, MatchOption};
 ghost use Rattle.types_spec.specs.declared.types.head.TagOf.{TagOf as Tag};
 ghost use Rattle.types_resolve.specs.scope.Least.{earliest};
-ghost use Rattle.types_wellformed.specs.brackets.Tables.{AreTagNames, AreColliding};
+ghost use Rattle.types_wellformed.specs.brackets.TagTables.{AreTagNames, AreColliding};
 
 use crate::brackets::sightings::{Sightings, add, empty, other};
 use crate::brackets::tag_item::TagItem;

@@ -1,14 +1,15 @@
 //! Parses texts of declarations and of types, and checks all scope rules.
 
 ghost use Rattle.std.specs.Prelude.{IfOk, IfErr};
-ghost use Rattle.types_spec.specs.types.Accepted.{AreWellFormed, IsSoundType};
-ghost use Rattle.types_wellformed.specs.declarations.Answer.{IsFileAnswer, IsTypeAnswer};
-ghost use Rattle.types_wellformed.specs.declarations.Fault.{IsRefused, HasFileNames, HasTypeNames};
+ghost use Rattle.types_spec.specs.types.WellFormed.{AreWellFormed, IsSoundType};
+ghost use Rattle.types_wellformed.specs.declarations.DeclarationAnswer.{IsFileAnswer, IsTypeAnswer};
+ghost use Rattle.types_wellformed.specs.declarations.DeclarationFault.{IsRefused, HasFileNames};
+ghost use Rattle.types_wellformed.specs.declarations.DeclarationFault.{HasTypeNames};
 ghost use Rattle.types_wellformed.specs.declarations.Read.{IsDeclared, IsTypeOf};
 
-use crate::declarations::fault::{DeclFault, head_fault};
-use crate::declarations::heads::{first_file_head, first_type_head};
-use crate::declarations::read::{read_names, read_type_names};
+use crate::declarations::declaration_fault::{DeclFault, head_fault};
+use crate::declarations::named_declarations::{read_names, read_type_names};
+use crate::declarations::text_head_rules::{first_file_head, first_type_head};
 use base_data::model::list::List;
 use std::alloc::Global;
 use types_spec::types::decl::Decl;

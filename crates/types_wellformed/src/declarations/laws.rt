@@ -3,8 +3,8 @@
 
 ghost use Rattle.std.specs.Prelude.{List};
 ghost use Rattle.types_spec.specs.declared.types.decl.Decl.{Decl};
-ghost use Rattle.types_wellformed.specs.declarations.Answer.{HasOneAnswer, IsFileAnswer};
-ghost use Rattle.types_wellformed.specs.declarations.Answer.{IsTypeAnswer};
+ghost use Rattle.types_wellformed.specs.declarations.DeclarationAnswer.{HasOneAnswer, IsFileAnswer};
+ghost use Rattle.types_wellformed.specs.declarations.DeclarationAnswer.{IsTypeAnswer};
 
 /// States that a text of declarations has at most one answer, and that the text of a type over
 /// declarations has at most one answer.

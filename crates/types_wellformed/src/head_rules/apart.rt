@@ -4,7 +4,7 @@
 
 ghost use Rattle.std.specs.Prelude.{◌≡◌, ◌+◌, ◌++◌, ◌∷◌, [], length, IfOk, IfSome, OnOk};
 ghost use Rattle.std.specs.Prelude.{IsTrue};
-ghost use Rattle.types_spec.specs.types.Nodes.{type_at};
+ghost use Rattle.types_spec.specs.types.TypeNodes.{type_at};
 ghost use Rattle.types_table.specs.store.Held.{Grows};
 ghost use Rattle.types_wellformed.specs.head_rules.Apart.{is_closed, ReportsClosed, alone};
 ghost use Rattle.types_wellformed.specs.head_rules.Apart.{AreListed, HasBody};

@@ -1,6 +1,6 @@
 //! A borrowed list of the nodes of a type.
 
-ghost use Rattle.types_spec.specs.types.Nodes.{AreOrdered};
+ghost use Rattle.types_spec.specs.types.TypeNodes.{AreOrdered};
 ghost use Rattle.types_wellformed.specs.head_rules.Ordered.{AreOrdered-prop};
 
 use types_spec::types::ty::TypeTreeNode;

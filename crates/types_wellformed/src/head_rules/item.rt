@@ -2,11 +2,11 @@
 
 ghost use Rattle.std.specs.Prelude.{◌≡◌, ◌<◌, Some, length, slice_get, IfOk};
 ghost use Rattle.types_spec.specs.types.Ty.{bracket, tag, tag_of, including};
-ghost use Rattle.types_spec.specs.types.Nodes.{type_at, types_of};
-ghost use Rattle.types_resolve.specs.scope.Brackets.{item_of, item_known};
+ghost use Rattle.types_spec.specs.types.TypeNodes.{type_at, types_of};
+ghost use Rattle.types_resolve.specs.scope.TypeBrackets.{item_of, item_known};
 ghost use Rattle.types_table.specs.store.Held.{Grows};
 ghost use Rattle.types_table.specs.store.Instance.{HasNumbers};
-ghost use Rattle.types_wellformed.specs.head_rules.Numbered.{IsNumbered};
+ghost use Rattle.types_wellformed.specs.head_rules.NumberedTypes.{IsNumbered};
 
 use crate::head_rules::head_nodes::HeadNodes;
 use base_data::model::Memory;

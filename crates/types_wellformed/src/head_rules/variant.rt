@@ -1,7 +1,7 @@
 //! Finds brackets that include a type that is not a polymorphic variant.
 
 ghost use Rattle.std.specs.Prelude.{◌<◌, ◌↔◌, length, IfOk, IsTrue};
-ghost use Rattle.types_spec.specs.types.Nodes.{type_at};
+ghost use Rattle.types_spec.specs.types.TypeNodes.{type_at};
 ghost use Rattle.types_resolve.specs.scope.Least.{IsLeast};
 ghost use Rattle.types_table.specs.store.Held.{Grows};
 ghost use Rattle.types_wellformed.specs.head_rules.Rules.{AreWithin, AreAllWithin, IncludesOther};

@@ -1,4 +1,4 @@
-use Rattle.cert_format.proofs.FaultLemmas.{sections_are_one, certificates_have_no_fault, faults_are_one}
+use Rattle.cert_format.proofs.CertificateFaultLemmas.{sections_are_one, certificates_have_no_fault, faults_are_one}
 use Rattle.cert_format.proofs.laws.texts_are_one.Goals as goal
 
 pub returns-clause-sections : goal.returns-clause-sections

@@ -1,4 +1,4 @@
-use Rattle.cert_format.proofs.WriteLemmas.{written_sections}
+use Rattle.cert_format.proofs.CertificateWriteLemmas.{written_sections}
 use Rattle.cert_format.proofs.laws.written_sections_are_certificates.Goals as goal
 
 pub returns : goal.returns

@@ -1,4 +1,4 @@
-use Rattle.cert_format.specs.Runs.{word_of}
+use Rattle.cert_format.specs.PairRuns.{word_of}
 use Rattle.cert_format.proofs.stems.word_from.Goals as goal
 
 pub returns : goal.returns

@@ -6,7 +6,7 @@ use Rattle.std.specs.Prelude.{◌==◌}
 use Rattle.std.proofs.lemmas.Bool.Decides.{nat_tests}
 use Rattle.types_table.specs.type_table.Made.{table_of}
 use Rattle.cert_produce.specs.LeastFaults.{noted_in}
-use Rattle.cert_produce.proofs.LeastLemmas.{noted_first}
+use Rattle.cert_produce.proofs.ProducedLeastLemmas.{noted_first}
 use Rattle.cert_produce.proofs.least_faults.first_of.Goals as goal
 
 not_same : (c q : ℕ) → ¬ (q ≡ c) → (c == q) ≡ false

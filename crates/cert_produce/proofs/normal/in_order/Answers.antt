@@ -4,7 +4,7 @@ use Rattle.std.proofs.lemmas.List.Filters.{dedup_is}
 use Rattle.std.proofs.lemmas.List.Kept.{IsStrictlySortedBy-dedup, Contains-dedup, Contains-from_dedup}
 use Rattle.std.proofs.lemmas.List.Sorted.{Contains-permutation, IsPermutation-sym}
 use Rattle.cert_format.specs.Increasing.{AreIncreasing}
-use Rattle.cert_produce.proofs.OrderLemmas.{sorted_increase, pair_cmp_total, same_test, same_test_ties, same_test_equiv, same_test_exact}
+use Rattle.cert_produce.proofs.ProducedOrderLemmas.{sorted_increase, pair_cmp_total, same_test, same_test_ties, same_test_equiv, same_test_exact}
 use Rattle.cert_produce.proofs.normal.in_order.Goals as goal
 
 pub of-requires : goal.of-requires

@@ -2,10 +2,10 @@ use Rattle.std.proofs.Common.{◌∙◌, List, ◌++◌, ap}
 use Rattle.std.specs.Prelude.{codes, map}
 use Rattle.std.proofs.lemmas.Result.{on_ok_weaker}
 use Rattle.base_data.specs.model.PathText.{path_text}
-use Rattle.check_stream.specs.search.Judge.{summary_text}
-use Rattle.check_stream.specs.declared.search.way.Link.{Link}
-use Rattle.check_stream.specs.search.Line.{path_in}
-use Rattle.check_fault.specs.Text.{text_at}
+use Rattle.check_stream.specs.mismatch_search.Judge.{summary_text}
+use Rattle.check_stream.specs.declared.mismatch_search.way.Link.{Link}
+use Rattle.check_stream.specs.mismatch_search.MismatchLine.{path_in}
+use Rattle.check_fault.specs.FaultText.{text_at}
 use Rattle.check_fault.proofs.ConflictTexts.{more}
 use Rattle.check_fault.proofs.missed.write_missed.Goals as goal
 

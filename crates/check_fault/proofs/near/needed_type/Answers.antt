@@ -2,7 +2,7 @@ use Rattle.std.proofs.Common.{◌∙◌, true, false, sym, ap}
 use Rattle.types_spec.specs.types.Fitting.{is_asked}
 use Rattle.types_spec.specs.types.Table.{node_or_none}
 use Rattle.types_table.specs.type_table.Made.{table_of}
-use Rattle.check_fault.proofs.StepLemmas.{none_needed, needed_by}
+use Rattle.check_fault.proofs.FaultStepLemmas.{none_needed, needed_by}
 use Rattle.check_fault.proofs.near.needed_type.Goals as goal
 
 pub returns-in_default-clause-is : goal.returns-in_default-clause-is

@@ -1,6 +1,6 @@
 use Rattle.std.proofs.Common.{◌∙◌, ◌≡◌, length, subst, take, arith}
 use Rattle.base_data.proofs.model.Lists.{take-whole}
-use Rattle.cli_args.specs.Commands.{Reports, app_with}
+use Rattle.cli_args.specs.CommandSet.{Reports, app_with}
 use Rattle.cli_args.proofs.CommandLemmas.{argument_added, with_more}
 use Rattle.cli_args.proofs.command_set.made.Goals as goal
 

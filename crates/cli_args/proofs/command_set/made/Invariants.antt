@@ -1,5 +1,5 @@
 use Rattle.std.proofs.Common.{take}
-use Rattle.cli_args.specs.Commands.{Reports, app_with}
+use Rattle.cli_args.specs.CommandSet.{Reports, app_with}
 use Rattle.cli_args.proofs.command_set.made.Given as goal
 
 abbrev pub invariant-loop-argument : goal.invariant-loop-argument

@@ -1,7 +1,7 @@
 use Rattle.std.proofs.Common.{◌∙◌, ◌≡◌, length, subst, take, arith}
 use Rattle.base_data.proofs.model.Lists.{take-whole}
 use Rattle.clap.specs.Words.{app_of}
-use Rattle.cli_args.specs.Commands.{program_with}
+use Rattle.cli_args.specs.CommandSet.{program_with}
 use Rattle.cli_args.proofs.CommandLemmas.{made_added, program_more}
 use Rattle.cli_args.proofs.command_set.made_of.Goals as goal
 

@@ -1,6 +1,6 @@
 use Rattle.std.proofs.Common.{◌≡◌, take}
 use Rattle.clap.specs.Words.{app_of}
-use Rattle.cli_args.specs.Commands.{program_with}
+use Rattle.cli_args.specs.CommandSet.{program_with}
 use Rattle.cli_args.proofs.command_set.made_of.Given as goal
 
 abbrev pub invariant-loop-name : goal.invariant-loop-name

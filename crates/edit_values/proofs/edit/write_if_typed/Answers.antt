@@ -7,7 +7,7 @@ use Rattle.types_spec.specs.types.Typing.{HasType}
 use Rattle.types_spec.specs.types.Table.{table_shapes}
 use Rattle.types_table.specs.type_table.Made.{table_of}
 use Rattle.check_heap.specs.check.Verdict.{IsVerdict}
-use Rattle.edit_values.proofs.WriteLemmas.{restored, stands_whole, there_after}
+use Rattle.edit_values.proofs.EditWriteLemmas.{restored, stands_whole, there_after}
 use Rattle.edit_values.proofs.edit.write_if_typed.Goals.{in-Ok-No, in-Err}
 use Rattle.edit_values.proofs.edit.write_if_typed.Goals as goal
 

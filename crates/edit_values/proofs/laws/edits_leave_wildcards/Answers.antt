@@ -1,7 +1,7 @@
 use Rattle.types_spec.specs.types.Equal.{Equal}
 use Rattle.types_spec.specs.types.Names.{names_of}
 use Rattle.types_spec.specs.types.Shape.{shape}
-use Rattle.edit_values.proofs.WildcardLemmas.{line_keeps, lines_keep}
+use Rattle.edit_values.proofs.EditWildcardLemmas.{line_keeps, lines_keep}
 use Rattle.edit_values.proofs.laws.edits_leave_wildcards.Goals as goal
 
 pub returns : goal.returns

@@ -3,7 +3,7 @@ use Rattle.base_data.specs.declared.model.value.Val.{Val}
 use Rattle.base_data.specs.declared.model.value.Obj.{Obj}
 use Rattle.types_spec.specs.declared.types.decl.Decl.{Decl}
 use Rattle.types_spec.specs.declared.types.fault.Fault.{Fault}
-use Rattle.types_spec.specs.types.Accepted.{AreWellFormed, IsSoundType}
+use Rattle.types_spec.specs.types.WellFormed.{AreWellFormed, IsSoundType}
 use Rattle.types_spec.specs.types.Fault.{IsFault}
 use Rattle.types_spec.specs.types.Reached.{IsReached}
 use Rattle.types_spec.specs.types.Ty.{Ty}
@@ -11,10 +11,10 @@ use Rattle.types_spec.specs.types.Typing.{HasType}
 use Rattle.types_spec.specs.types.Equal.{Equal, declared_shapes}
 use Rattle.types_spec.specs.types.Names.{names_of}
 use Rattle.types_spec.specs.types.Shape.{shape}
-use Rattle.types_spec.proofs.types.FaultLemmas.{fault_excludes_type}
-use Rattle.types_theory.proofs.equality.LawfulLemmas.{reached_lawful}
-use Rattle.types_theory.proofs.equality.ReachedLemmas.{root_listed}
-use Rattle.types_theory.proofs.equality.SoundLemmas.{known_by_hash}
+use Rattle.types_spec.proofs.types.TypeFaultLemmas.{fault_excludes_type}
+use Rattle.types_theory.proofs.equality.EqualityLawfulLemmas.{reached_lawful}
+use Rattle.types_theory.proofs.equality.EqualityReachedLemmas.{root_listed}
+use Rattle.types_theory.proofs.equality.EqualitySoundLemmas.{known_by_hash}
 use Rattle.edit_values.proofs.GraftAnswers.{graft_known_once, grafts_once}
 use Rattle.edit_values.proofs.laws.grafts_have_one_answer.Goals as goal
 

@@ -1,4 +1,4 @@
-use Rattle.edit_values.proofs.LineLemmas.{line_answer_agree}
+use Rattle.edit_values.proofs.EditLineLemmas.{line_answer_agree}
 use Rattle.edit_values.proofs.laws.tables_answer_lines_agree.Goals as goal
 
 pub returns : goal.returns

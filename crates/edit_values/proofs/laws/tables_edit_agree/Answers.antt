@@ -1,4 +1,4 @@
-use Rattle.edit_values.proofs.AgreeLemmas.{answer_agree}
+use Rattle.edit_values.proofs.EditAgreeLemmas.{answer_agree}
 use Rattle.edit_values.proofs.laws.tables_edit_agree.Goals as goal
 
 pub returns : goal.returns

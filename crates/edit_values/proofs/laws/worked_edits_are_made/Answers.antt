@@ -6,8 +6,8 @@ use Rattle.types_lex.specs.declared.lexeme.Suffix.TheVariants as suffixes
 use Rattle.types_spec.specs.types.Declarations.{predeclared}
 use Rattle.types_spec.specs.types.Predeclared.{sum_at, name_at}
 use Rattle.types_spec.specs.types.Head.{head}
-use Rattle.text_literal.specs.grammar.Literal.{Literal, labelled, integer, string, constant, applied, cons_head, empty_head, no_parts, more_parts}
-use Rattle.text_literal.specs.parser.Reading.{mismatch_at, int_range_at}
+use Rattle.text_literal.specs.literal_grammar.Literal.{Literal, labelled, integer, string, constant, applied, cons_head, empty_head, no_parts, more_parts}
+use Rattle.text_literal.specs.parser.LiteralReading.{mismatch_at, int_range_at}
 use Rattle.edit_values.specs.WorkedEdits as rows
 use Rattle.edit_values.proofs.laws.worked_edits_are_made.Goals as goal
 

@@ -2,7 +2,7 @@ use Rattle.std.proofs.Common.{◌≡◌, ◌<◌, length, drop}
 use Rattle.base_data.specs.model.Graph.{IsValue}
 use Rattle.types_spec.specs.types.Table.{table_shapes}
 use Rattle.types_table.specs.type_table.Made.{table_of}
-use Rattle.edit_values.specs.Positions.{position_at, position_from, StandsAt}
+use Rattle.edit_values.specs.EditPositions.{position_at, position_from, StandsAt}
 use Rattle.edit_values.proofs.spots.find_position.Given as goal
 
 -- The remaining path leads from the current location to the location at the end of the whole path.

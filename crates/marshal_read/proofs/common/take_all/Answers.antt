@@ -2,9 +2,9 @@ use Rattle.std.proofs.Common.{rules, ℕ, List, [], Some, ◌+◌, ◌<◌, ◌^
 use Rattle.marshal_read.specs.declared.remaining_room.RemainingRoom.{RemainingRoom}
 use Rattle.marshal_read.specs.Build.{Bounded}
 use Rattle.marshal_read.specs.Chunks.{LeadsAs}
-use Rattle.marshal_read.specs.Left.{Leaves, TakesAll}
+use Rattle.marshal_read.specs.Left.{LeavesRoom, TakesAll}
 use Rattle.marshal_read.proofs.CommonLemmas.{one_more_taken}
-use Rattle.marshal_read.proofs.LeftLemmas.{still_open}
+use Rattle.marshal_read.proofs.ReaderLeftLemmas.{still_open}
 use Rattle.marshal_read.proofs.common.take_all.Goals as goal
 use Rattle.marshal_read.proofs.common.take_all.Goals.{After-take_one-n}
 
@@ -40,7 +40,7 @@ moved c some limit taken h =
     let w = t.2.2 in
     let m = (c.take_one-n.ensures (0 + c.loop-at.at) w.0 w.1 t.0 (record { leaves = t.1; builds = w.2.builds })).1 some in
     let is_open = still_open c.args.first.now t.0 (0 + c.loop-at.at) (length c.args.bytes.now) c.loop-at.left t.1 (λ last. (t.2.1 last).1) c.requires.within (omega arith) in
-    let further : Leaves c.args.first.now (0 + (c.loop-at.at + c.take_one-n.result)) m.0 c.take_one-n.new.left = subst (λ k. Leaves c.args.first.now k m.0 c.take_one-n.new.left) (omega arith) m.1 in
+    let further : LeavesRoom c.args.first.now (0 + (c.loop-at.at + c.take_one-n.result)) m.0 c.take_one-n.new.left = subst (λ k. LeavesRoom c.args.first.now k m.0 c.take_one-n.new.left) (omega arith) m.1 in
     (m.0, further, one_more_taken limit taken c.args.bytes.now t.0 m.0 c.loop-at.builder c.take_one-n.new.builder c.loop-at.at c.take_one-n.result (omega (arith, is_open, t.1.pending)) t.2 some m.2)
 
 pub overflow_add-at : goal.overflow_add-at

@@ -6,16 +6,16 @@ use Rattle.marshal_spec.specs.format.Raw.{fixed_bytes, variable_bytes, measure_a
 use Rattle.marshal_spec.specs.format.Words.{of_object, words32, words64}
 use Rattle.marshal_spec.specs.format.Step.{field_refusal}
 use Rattle.marshal_spec.specs.format.Token.{Token, EncodesAfter}
-use Rattle.marshal_spec.proofs.format.KindLemmas.{IsKind-kind_of}
+use Rattle.marshal_spec.proofs.format.FormatKindLemmas.{IsKind-kind_of}
 use Rattle.marshal_spec.proofs.format.RawLemmas.{fields_fit, measure_after-take}
 use Rattle.marshal_read.specs.declared.read_totals.ReadTotals.{ReadTotals}
 use Rattle.marshal_read.specs.Totals.{PassesTo, Advances, AreFew, context_of, IsPlain}
 use Rattle.marshal_read.specs.Build.{Fits, absorb_in}
-use Rattle.marshal_read.specs.Left.{Leaves, Stands, Spends, IsSpent}
+use Rattle.marshal_read.specs.Left.{LeavesRoom, StandsInRun, SpendsRoom, IsSpent}
 use Rattle.marshal_read.specs.Contents.{EncodesTokenAfter}
-use Rattle.marshal_read.proofs.SizeLemmas.{few_words32, few_words64}
-use Rattle.marshal_read.proofs.LeftLemmas.{goes_on}
-use Rattle.marshal_read.proofs.NextLemmas.{objects_built}
+use Rattle.marshal_read.proofs.ReaderSizeLemmas.{few_words32, few_words64}
+use Rattle.marshal_read.proofs.ReaderLeftLemmas.{goes_on}
+use Rattle.marshal_read.proofs.ReaderNextLemmas.{objects_built}
 use Rattle.marshal_read.proofs.CommonLemmas.{advance_fits, common_taken, common_encoded, passes_from}
 use Rattle.marshal_read.proofs.common.take_kind.Goals as goal
 use Rattle.marshal_read.proofs.common.take_kind.Goals.{After-is_sound}
@@ -30,17 +30,17 @@ len_is c = let e : c.in-Some.len ≡ fixed_bytes c.args.kind + variable_bytes c.
     subst (λ rest. c.in-Some.len ≡ fixed_bytes c.args.kind + variable_bytes c.args.kind rest) c.skip-rest.ensures e
 
 -- The totals count as many objects as the builder has.
-counted : (c : After-is_sound) (n : ℕ) (header : List ℕ) (before : List (List ℕ)) (position : ReadTotals) → Stands c.args.first.now n header before position c.args.left.now c.args.builder.now
+counted : (c : After-is_sound) (n : ℕ) (header : List ℕ) (before : List (List ℕ)) (position : ReadTotals) → StandsInRun c.args.first.now n header before position c.args.left.now c.args.builder.now
     → position.objects ≡ c.count-objects.result
 counted c n header before position h = sym (c.count-objects.ensures ∙ objects_built header before position c.args.builder.now h.builds ∙ h.builds.sums.objects)
 
 -- If the token fits the remaining room, then the totals advance by the token.
-moved : (c : After-is_sound) → c.spend.result ≡ true → c.is_sound.result ≡ true → (n : ℕ) (header : List ℕ) (before : List (List ℕ)) (position : ReadTotals) → Stands c.args.first.now n header before position c.args.left.now c.args.builder.now
-    → (next : ReadTotals) × Leaves c.args.first.now (n + (1 + c.in-Some.len)) next c.spend.new.self × Advances position (1 + c.in-Some.len) (measure_after c.args.kind c.skip-rest.result.now) next true
+moved : (c : After-is_sound) → c.spend.result ≡ true → c.is_sound.result ≡ true → (n : ℕ) (header : List ℕ) (before : List (List ℕ)) (position : ReadTotals) → StandsInRun c.args.first.now n header before position c.args.left.now c.args.builder.now
+    → (next : ReadTotals) × LeavesRoom c.args.first.now (n + (1 + c.in-Some.len)) next c.spend.new.self × Advances position (1 + c.in-Some.len) (measure_after c.args.kind c.skip-rest.result.now) next true
 moved c e sound n header before position h =
     let rest = c.skip-rest.result.now in
     let l : 1 + fixed_bytes c.args.kind + variable_bytes c.args.kind rest ≡ 1 + c.in-Some.len = omega (arith, c.in-Some.ensures.len) in
-    let spends : Spends c.args.left.now (1 + c.in-Some.len) (measure_after c.args.kind rest) c.spend.new.self = search rules in
+    let spends : SpendsRoom c.args.left.now (1 + c.in-Some.len) (measure_after c.args.kind rest) c.spend.new.self = search rules in
     let measure : c.measure_at-measure.result ≡ measure_after c.args.kind rest = search rules in
     let many : position.objects ≡ c.count-objects.result = counted c n header before position h in
     let spent : c.spend.new.self.pending ≡ 0 → IsSpent c.args.first.now.head (position.objects + of_object (λ _. 1) (measure_after c.args.kind rest)) c.spend.new.self =
@@ -50,7 +50,7 @@ moved c e sound n header before position h =
     (subst (AreFew words64 (measure_after c.args.kind rest)) l (few_words64 c.args.kind rest))
 
 -- If the totals advance by the token, then the token passes.
-passes : (c : After-is_sound) → (n : ℕ) (header : List ℕ) (before : List (List ℕ)) (position next : ReadTotals) → Stands c.args.first.now n header before position c.args.left.now c.args.builder.now
+passes : (c : After-is_sound) → (n : ℕ) (header : List ℕ) (before : List (List ℕ)) (position next : ReadTotals) → StandsInRun c.args.first.now n header before position c.args.left.now c.args.builder.now
     → Advances position (1 + c.in-Some.len) (measure_after c.args.kind c.skip-rest.result.now) next true → PassesTo position (get_or c.args.bytes.now 0 0) c.args.kind (drop 1 c.args.bytes.now) next
 passes c n header before position next h advances =
     let rest = c.skip-rest.result.now in

@@ -1,7 +1,7 @@
 use Rattle.std.proofs.Common.{◌++◌, take, refl, arith}
 use Rattle.std.proofs.lemmas.Result.{MatchResult-from_err}
 use Rattle.cli_spec.specs.Outcome.{unasked}
-use Rattle.run_spec.proofs.runs.TakeLemmas.{taken, took_more}
+use Rattle.run_spec.proofs.runs.RunTakeLemmas.{taken, took_more}
 use Rattle.run_types.proofs.fetch.gather_file.Goals as goal
 
 -- The bytes that were read include the last chunk, which could not be stored.

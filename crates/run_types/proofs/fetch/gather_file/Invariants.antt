@@ -1,8 +1,8 @@
 use Rattle.std.proofs.Common.{◌≡◌, ◌-◌, ◌^◌, vec_len}
 use Rattle.cli_spec.specs.Outcome.{unasked}
-use Rattle.base_io.specs.State.{as_source, change}
+use Rattle.base_io.specs.StreamState.{as_source, change}
 use Rattle.run_spec.specs.runs.Given.{Gathers}
-use Rattle.run_spec.proofs.runs.TakeLemmas.{taken}
+use Rattle.run_spec.proofs.runs.RunTakeLemmas.{taken}
 use Rattle.run_types.proofs.fetch.gather_file.Given as goal
 
 abbrev pub invariant-loop-buffer : goal.invariant-loop-buffer

@@ -1,4 +1,4 @@
-use Rattle.session.proofs.PartLemmas.{values_part, texts_part, certificates_part, sections_part, positions_part, made_part}
+use Rattle.session.proofs.SessionPartLemmas.{values_part, texts_part, certificates_part, sections_part, positions_part, made_part}
 use Rattle.session.proofs.commands.all_commands_have_parts.Goals as goal
 
 pub returns-clause-values : goal.returns-clause-values

@@ -1,5 +1,5 @@
 use Rattle.std.proofs.Common.{◌∙◌, ◌++◌, ◌∷◌, [], List, Some, sym, ap, subst}
-use Rattle.text_path.specs.Order.{lines_of}
+use Rattle.text_path.specs.LineOrder.{lines_of}
 use Rattle.session.specs.declared.earlier.Earlier.{Earlier}
 use Rattle.session.specs.Earlier.{AreInOrder, AreNamed, all_after}
 use Rattle.session.proofs.EarlierLemmas.{dropped, is_kept, not_kept}

@@ -2,10 +2,10 @@ use Rattle.std.proofs.Common.{◌≡◌, ℕ, List, [], ◌++◌, sym, ap, ◌�
 use Rattle.std.proofs.lemmas.Result.{on_ok_weaker}
 use Rattle.cli_spec.specs.Outcome.{Output}
 use Rattle.types_table.specs.type_table.Made.{table_of}
-use Rattle.check_stream.specs.declared.chunks.stream_check.StreamCheck.{StreamCheck}
-use Rattle.check_stream.specs.chunks.StreamCheck.{IsStreamCheck}
-use Rattle.session.specs.declared.values.ValueTask.{ValueTask}
-use Rattle.session.specs.Values.{MayTake, HasRead}
+use Rattle.check_stream.specs.declared.chunk_check.stream_check.StreamCheck.{StreamCheck}
+use Rattle.check_stream.specs.chunk_check.StreamCheck.{IsStreamCheck}
+use Rattle.session.specs.declared.input_values.ValueTask.{ValueTask}
+use Rattle.session.specs.InputValues.{MayTake, HasRead}
 use Rattle.session.proofs.ProgressLemmas.{all_read, kept_read, fresh_checked}
 use Rattle.session.proofs.session_state.give_up.Goals as goal
 

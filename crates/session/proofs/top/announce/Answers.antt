@@ -1,6 +1,6 @@
 use Rattle.cli_spec.specs.Outcome.{asked_type}
-use Rattle.base_io.specs.State.{change}
-use Rattle.session.proofs.AccountLemmas.{type_account}
+use Rattle.base_io.specs.StreamState.{change}
+use Rattle.session.proofs.SessionAccountLemmas.{type_account}
 use Rattle.session.proofs.top.announce.Goals as goal
 
 pub returns-in-Ok : goal.returns-in-Ok

@@ -1,5 +1,5 @@
-use Rattle.base_io.specs.State.{change}
-use Rattle.session.proofs.AccountLemmas.{file_account}
+use Rattle.base_io.specs.StreamState.{change}
+use Rattle.session.proofs.SessionAccountLemmas.{file_account}
 use Rattle.session.proofs.top.edit.Goals as goal
 
 pub returns-in-Ok : goal.returns-in-Ok

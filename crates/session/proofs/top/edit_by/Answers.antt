@@ -1,10 +1,10 @@
 use Rattle.std.proofs.Common.{◌≡◌, ℕ, Bool, List, Ok, Err, Result, subst}
 use Rattle.cli_spec.specs.Outcome.{Found}
 use Rattle.cli_spec.specs.declared.exit.Exit.{Exit}
-use Rattle.base_io.specs.State.{change}
+use Rattle.base_io.specs.StreamState.{change}
 use Rattle.text_path.specs.declared.edits.Script.{Script}
-use Rattle.run_types.specs.Types.{GivesScript}
-use Rattle.session.proofs.AccountLemmas.{given_in_time, script_account}
+use Rattle.run_types.specs.RequestedTexts.{GivesScript}
+use Rattle.session.proofs.SessionAccountLemmas.{given_in_time, script_account}
 use Rattle.session.proofs.top.edit_by.Goals as goal
 
 -- If the options of a script equal the requested options, then the result is the result with the

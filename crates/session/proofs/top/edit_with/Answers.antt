@@ -1,7 +1,7 @@
 use Rattle.std.specs.Borrow.{Bor}
-use Rattle.base_io.specs.State.{change}
+use Rattle.base_io.specs.StreamState.{change}
 use Rattle.text_path.specs.declared.edits.Script.{Script}
-use Rattle.session.proofs.AccountLemmas.{edits_account}
+use Rattle.session.proofs.SessionAccountLemmas.{edits_account}
 use Rattle.session.proofs.top.edit_with.Goals as goal
 
 pub take_values-requires : goal.take_values-requires

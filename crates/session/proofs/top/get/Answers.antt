@@ -1,8 +1,8 @@
 use Rattle.std.proofs.Common.{Ok, Err, refl, subst}
 use Rattle.cli_spec.specs.Outcome.{get}
-use Rattle.base_io.specs.State.{change}
-use Rattle.text_path.specs.Answer.{IsAnswer, UnlessMemory}
-use Rattle.session.proofs.AccountLemmas.{path_account}
+use Rattle.base_io.specs.StreamState.{change}
+use Rattle.text_path.specs.ParserAnswer.{IsAnswer, UnlessMemory}
+use Rattle.session.proofs.SessionAccountLemmas.{path_account}
 use Rattle.session.proofs.top.get.Goals as goal
 
 pub returns-in-Ok : goal.returns-in-Ok

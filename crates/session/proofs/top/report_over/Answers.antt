@@ -1,7 +1,7 @@
 use Rattle.std.specs.Borrow.{Bor}
-use Rattle.base_io.specs.State.{change}
+use Rattle.base_io.specs.StreamState.{change}
 use Rattle.run_types.specs.declared.requested.Prepared.{Prepared}
-use Rattle.session.proofs.AccountLemmas.{known_account}
+use Rattle.session.proofs.SessionAccountLemmas.{known_account}
 use Rattle.session.proofs.top.report_over.Goals as goal
 
 pub returns : goal.returns

@@ -1,4 +1,4 @@
-use Rattle.session.proofs.CopyLemmas.{leaves_canonical}
+use Rattle.session.proofs.SessionCopyLemmas.{leaves_canonical}
 use Rattle.session.proofs.top.run.Goals as goal
 
 pub returns-clause-run_spec : goal.returns-clause-run_spec

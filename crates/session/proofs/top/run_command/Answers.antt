@@ -1,8 +1,8 @@
-use Rattle.base_io.specs.State.{change}
+use Rattle.base_io.specs.StreamState.{change}
 use Rattle.cli_args.specs.Requests.{texts}
 use Rattle.run_loop.proofs.work.ExitLemmas.{usage_account, unread_account}
 use Rattle.session.specs.All.{all_commands}
-use Rattle.session.proofs.PartLemmas.{all_in_turns}
+use Rattle.session.proofs.SessionPartLemmas.{all_in_turns}
 use Rattle.session.proofs.top.run_command.Goals as goal
 
 pub returns-in-Err-Usage : goal.returns-in-Err-Usage

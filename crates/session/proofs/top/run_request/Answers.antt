@@ -1,10 +1,10 @@
 use Rattle.std.proofs.Common.{refl}
 use Rattle.cli_spec.specs.CommandLine.{certify, scan}
 use Rattle.cli_spec.specs.Outcome.{Request, report, the_verdict, the_text, the_trees, get, edit, dump, compare, own, build, generate, verify, Asks}
-use Rattle.base_io.specs.State.{change}
+use Rattle.base_io.specs.StreamState.{change}
 use Rattle.session.specs.All.{on_values_after, on_texts, on_made, on_certificates_after, on_certified_after, on_positions, IsOfValues, IsOfTexts, IsOfMade, IsOfCertificates, IsOfSections, IsOfPositions}
-use Rattle.session.proofs.AccountLemmas.{dump_account, compare_account}
-use Rattle.session.proofs.PartLemmas.{all_account}
+use Rattle.session.proofs.SessionAccountLemmas.{dump_account, compare_account}
+use Rattle.session.proofs.SessionPartLemmas.{all_account}
 use Rattle.session.proofs.top.run_request.Goals as goal
 
 pub returns-in-Check : goal.returns-in-Check

@@ -1,5 +1,5 @@
 use Rattle.std.proofs.Common.{◌∙◌, ℕ, Option, ap, subst}
-use Rattle.base_io.specs.State.{change}
+use Rattle.base_io.specs.StreamState.{change}
 use Rattle.cli_spec.specs.Outcome.{Task}
 use Rattle.text_path.specs.declared.edits.ScriptLine.{ScriptLine}
 use Rattle.run_types.specs.Language.{TypeOver}
@@ -7,7 +7,7 @@ use Rattle.opt_skip_only.specs.declared.skip.skip_command.Over.{Over}
 use Rattle.opt_skip_only.specs.skip.SkipCommand.{passed_of}
 use Rattle.run_loop.specs.work.Reported.{HasAccount}
 use Rattle.session.specs.All.{on_values_after}
-use Rattle.session.specs.Values.{task_of}
+use Rattle.session.specs.InputValues.{task_of}
 use Rattle.session.proofs.top.take_values.Goals as goal
 
 -- The operation, with the number given by `--only`.

@@ -2,7 +2,7 @@ use Rattle.std.proofs.Common.{rules, arith, ◌≡◌, ◌∷◌, List, [], leng
 use Rattle.marshal_spec.specs.format.Tree.{Tree, IsTree, tokens, root}
 use Rattle.test_oracles.specs.declared.token.Token.{Token}
 use Rattle.test_oracles.specs.Token.{token_of}
-use Rattle.test_oracles.proofs.GraphLemmas.{After, After-values, After-objects}
+use Rattle.test_oracles.proofs.OracleGraphLemmas.{After, After-values, After-objects}
 use Rattle.test_oracles.proofs.build.build.Goals as goal
 use Rattle.test_oracles.proofs.build.build.Goals.{In_default}
 

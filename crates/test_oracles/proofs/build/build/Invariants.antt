@@ -1,5 +1,5 @@
 use Rattle.std.proofs.Common.{vec_len}
-use Rattle.test_oracles.proofs.GraphLemmas.{After}
+use Rattle.test_oracles.proofs.OracleGraphLemmas.{After}
 use Rattle.test_oracles.proofs.build.build.Given as goal
 
 abbrev pub invariant-next : goal.invariant-next

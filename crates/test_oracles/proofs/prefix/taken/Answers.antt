@@ -1,5 +1,5 @@
 use Rattle.std.proofs.Common.{◌≡◌, ◌+◌, length, arith, rules}
-use Rattle.test_oracles.proofs.PrefixLemmas.{length_more, length_within}
+use Rattle.test_oracles.proofs.OraclePrefixLemmas.{length_more, length_within}
 use Rattle.test_oracles.proofs.prefix.taken.Goals as goal
 
 pub overflow_add-taken : goal.overflow_add-taken

@@ -1,4 +1,4 @@
-use Rattle.text_path.proofs.TimeLemmas.{lines_in_time}
+use Rattle.text_path.proofs.PathTimeLemmas.{lines_in_time}
 use Rattle.text_path.proofs.laws.lines_in_time.Goals as goal
 
 pub returns : goal.returns

@@ -1,4 +1,4 @@
-use Rattle.text_path.proofs.ScriptLemmas.{one_script_answer}
+use Rattle.text_path.proofs.PathScriptLemmas.{one_script_answer}
 use Rattle.text_path.proofs.laws.one_script_answer.Goals as goal
 
 pub returns : goal.returns

@@ -1,5 +1,5 @@
 use Rattle.std.proofs.Common.{◌≡◌, ◌++◌, drop}
-use Rattle.text_pretty.specs.Lines.{laid, pretty}
+use Rattle.text_pretty.specs.PrettyLines.{laid, pretty}
 use Rattle.text_pretty.proofs.pretty.write_pretty.Given as goal
 
 abbrev pub invariant-loop-i : goal.invariant-loop-i

@@ -4,8 +4,8 @@ use Rattle.hex.specs.Hex.{encode_with}
 use Rattle.types_spec.specs.types.Declarations.{predeclared}
 use Rattle.types_spec.specs.types.Predeclared.{sum_at, name_at}
 use Rattle.types_spec.specs.types.Head.{head}
-use Rattle.text_print.specs.show.Shown.{shown_text}
-use Rattle.text_print.specs.show.Dumped.{dump_text}
+use Rattle.text_print.specs.show.ShownValues.{shown_text}
+use Rattle.text_print.specs.show.DumpedGraph.{dump_text}
 use Rattle.text_print.proofs.show.texts_of_worked_values.Goals as goal
 
 pub returns : goal.returns

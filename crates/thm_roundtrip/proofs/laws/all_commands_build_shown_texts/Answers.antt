@@ -1,4 +1,4 @@
-use Rattle.thm_roundtrip.proofs.AllLemmas.{all_build_shown_texts}
+use Rattle.thm_roundtrip.proofs.RoundtripLemmas.{all_build_shown_texts}
 use Rattle.thm_roundtrip.proofs.laws.all_commands_build_shown_texts.Goals as goal
 
 pub returns : goal.returns

@@ -1,4 +1,4 @@
-use Rattle.run_types.proofs.GivenLemmas.{given_sound}
+use Rattle.run_types.proofs.RunTypesGivenLemmas.{given_sound}
 use Rattle.thm_roundtrip.proofs.BuiltLemmas.{shown_texts_are_built}
 use Rattle.thm_roundtrip.proofs.laws.shown_texts_are_built.Goals as goal
 

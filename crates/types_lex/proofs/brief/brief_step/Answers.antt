@@ -3,7 +3,7 @@ use Rattle.std.proofs.lemmas.List.{take_rest}
 use Rattle.types_lex.specs.declared.found_lexeme.LexStep.{LexStep}
 use Rattle.types_lex.specs.declared.lexeme.LexFault.{LexFault}
 use Rattle.types_lex.specs.Brief.{StepsBrief}
-use Rattle.types_lex.specs.Scan.{step_at}
+use Rattle.types_lex.specs.Lexer.{step_at}
 use Rattle.types_lex.proofs.BriefLaws.{prefix_gap, prefix_symbol, no_step, prefix_string, prefix_name, steps_whole}
 use Rattle.types_lex.proofs.brief.brief_step.Goals as goal
 

@@ -4,7 +4,7 @@ use Rattle.types_lex.specs.declared.found_lexeme.LexStep.{LexStep}
 use Rattle.types_lex.specs.declared.found_lexeme.LexStep.TheVariants as steps
 use Rattle.types_lex.specs.Brief.{StepsBrief}
 use Rattle.types_lex.specs.Lexemes.{Reached}
-use Rattle.types_lex.specs.Scan.{step_at}
+use Rattle.types_lex.specs.Lexer.{step_at}
 use Rattle.types_lex.proofs.BriefLaws.{Full, word_full, full_span, full_kind, full_reached}
 use Rattle.types_lex.proofs.FaultLaws.{IsPartAt}
 use Rattle.types_lex.proofs.PartLaws.{reached_more, reached_further, part_here, known_inside, known_fault, goes_down}

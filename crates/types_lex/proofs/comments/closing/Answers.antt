@@ -1,5 +1,5 @@
 use Rattle.std.proofs.Common.{sym, ap, ◌∙◌, arith}
-use Rattle.types_lex.specs.Scan.{plus}
+use Rattle.types_lex.specs.Lexer.{plus}
 use Rattle.types_lex.proofs.CommentLaws.{opens, closes, ends, goes_on, closing-end}
 use Rattle.types_lex.proofs.comments.closing.Goals as goal
 

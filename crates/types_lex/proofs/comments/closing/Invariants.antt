@@ -1,5 +1,5 @@
 use Rattle.std.proofs.Common.{◌≡◌, ◌-◌, ◌≤◌, length, drop}
-use Rattle.types_lex.specs.Scan.{plus, closing}
+use Rattle.types_lex.specs.Lexer.{plus, closing}
 use Rattle.types_lex.proofs.comments.closing.Given as goal
 
 -- The remaining bytes determine the end of the comment.

@@ -1,7 +1,7 @@
 use Rattle.std.proofs.Common.{sym, ap, arith}
 use Rattle.std.proofs.lemmas.List.{drop_all}
 use Rattle.types_lex.specs.Lexemes.{lexeme_in}
-use Rattle.types_lex.specs.Scan.{step_at}
+use Rattle.types_lex.specs.Lexer.{step_at}
 use Rattle.types_lex.proofs.lexemes.kind_from.Goals as goal
 
 pub returns-then-position-text : goal.returns-then-position-text

@@ -3,7 +3,7 @@ use Rattle.std.specs.BTreeSet.{BTreeSet}
 use Rattle.std.proofs.lemmas.Option.{same_Some}
 use Rattle.types_table.specs.type_table.Made.{table_of}
 use Rattle.cert_verify.specs.certificate.Testing.{AreCrowded, is_in}
-use Rattle.cert_verify.proofs.certificate.HeldLemmas.{frequent_more, frequent_same}
+use Rattle.cert_verify.proofs.certificate.EntryHeldLemmas.{frequent_more, frequent_same}
 use Rattle.cert_verify.proofs.certificate.held.frequent_of.Goals as goal
 use Rattle.cert_verify.proofs.certificate.held.frequent_of.Goals.{then-before-object+in_ok-insert, else-before-object}
 

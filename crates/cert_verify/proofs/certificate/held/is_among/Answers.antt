@@ -1,6 +1,6 @@
 use Rattle.std.proofs.Common.{◌<◌, ◌≤◌, ◌+◌, length, arith}
 use Rattle.types_table.specs.type_table.Made.{table_of}
-use Rattle.cert_verify.proofs.certificate.HeldLemmas.{frequent_reports}
+use Rattle.cert_verify.proofs.certificate.EntryHeldLemmas.{frequent_reports}
 use Rattle.cert_verify.proofs.certificate.held.is_among.Goals as goal
 
 pub returns : goal.returns

@@ -2,7 +2,7 @@ use Rattle.std.proofs.Common.{ℕ, ◌∙◌, Some, sym, ap, arith}
 use Rattle.std.specs.Prelude.{◌==◌, not}
 use Rattle.std.proofs.lemmas.Option.{same_Some}
 use Rattle.types_table.specs.type_table.Made.{table_of}
-use Rattle.cert_verify.proofs.certificate.HeldLemmas.{differ, known_before, passing_from}
+use Rattle.cert_verify.proofs.certificate.EntryHeldLemmas.{differ, known_before, passing_from}
 use Rattle.cert_verify.proofs.certificate.held.is_elsewhere.Goals as goal
 use Rattle.cert_verify.proofs.certificate.held.is_elsewhere.Goals.{then-i-gt0+else-before-object, else-i-gt0}
 

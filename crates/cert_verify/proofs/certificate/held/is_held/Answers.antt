@@ -1,7 +1,7 @@
 use Rattle.std.proofs.Common.{arith, refl}
 use Rattle.types_table.specs.type_table.Made.{table_of}
-use Rattle.check_heap.proofs.fits.RowLemmas.{is_reference}
-use Rattle.cert_verify.proofs.certificate.HeldLemmas.{no_object_held, object_held, unfit_not_held}
+use Rattle.check_heap.proofs.fits.FitsRowLemmas.{is_reference}
+use Rattle.cert_verify.proofs.certificate.EntryHeldLemmas.{no_object_held, object_held, unfit_not_held}
 use Rattle.cert_verify.proofs.certificate.held.is_held.Goals as goal
 
 pub is_among-requires-clause-there : goal.is_among-requires-clause-there

@@ -1,7 +1,7 @@
 use Rattle.types_spec.specs.types.Table.{table_shapes}
-use Rattle.types_spec.specs.types.Lawful.{Everything}
-use Rattle.types_spec.proofs.types.FaultLemmas.{fault_excludes_type}
-use Rattle.cert_verify.proofs.certificate.AcceptedLemmas.{accepted_has_type, accepted_hold_paths}
+use Rattle.types_spec.specs.types.LawfulShapes.{Everything}
+use Rattle.types_spec.proofs.types.TypeFaultLemmas.{fault_excludes_type}
+use Rattle.cert_verify.proofs.certificate.EntryAcceptedLemmas.{accepted_has_type, accepted_hold_paths}
 use Rattle.cert_verify.proofs.certificate.laws.accepted_sections_are_right.Goals as goal
 
 pub returns-clause-pairs : goal.returns-clause-pairs

@@ -1,4 +1,4 @@
-use Rattle.cert_verify.proofs.certificate.ReachedLemmas.{reached_pairs, reached_are_one}
+use Rattle.cert_verify.proofs.certificate.EntryReachedLemmas.{reached_pairs, reached_are_one}
 use Rattle.cert_verify.proofs.certificate.laws.reached_pairs_are_accepted.Goals as goal
 
 pub returns-clause-accepted : goal.returns-clause-accepted

@@ -1,5 +1,5 @@
 use Rattle.types_spec.specs.types.Table.{table_shapes}
-use Rattle.cert_verify.proofs.certificate.AcceptedLemmas.{accepted_too}
+use Rattle.cert_verify.proofs.certificate.EntryAcceptedLemmas.{accepted_too}
 use Rattle.cert_verify.proofs.certificate.NormalLemmas.{normal_is_one}
 use Rattle.cert_verify.proofs.certificate.laws.the_same_pairs_are_accepted.Goals as goal
 

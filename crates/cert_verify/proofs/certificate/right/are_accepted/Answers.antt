@@ -4,8 +4,8 @@ use Rattle.std.proofs.lemmas.Bool.{OnTrue_at, OnTrue_from}
 use Rattle.types_spec.specs.types.Table.{table_shapes}
 use Rattle.types_spec.specs.types.Typing.{IsHeld}
 use Rattle.types_table.specs.type_table.Made.{table_of}
-use Rattle.check_heap.proofs.scan.NeedLemmas.{shape_asked}
-use Rattle.cert_verify.proofs.certificate.JudgeLemmas.{accepted}
+use Rattle.check_heap.proofs.scan.ScanNeedLemmas.{shape_asked}
+use Rattle.cert_verify.proofs.certificate.EntryJudgeLemmas.{accepted}
 use Rattle.cert_verify.proofs.certificate.RightLemmas.{worded_stands, right_fit}
 use Rattle.cert_verify.proofs.certificate.right.are_accepted.Goals as goal
 

@@ -4,9 +4,9 @@ use Rattle.std.proofs.lemmas.Bool.{OnTrue_at}
 use Rattle.types_table.specs.type_table.Made.{table_of}
 use Rattle.marshal_heap.specs.heap.Heap.{field_at}
 use Rattle.check_heap.specs.fits.Needs.{needs_in}
-use Rattle.check_heap.proofs.scan.FieldLemmas.{word_inside, field_word, field_valid}
-use Rattle.check_heap.proofs.scan.NeedLemmas.{need_field, need_node, some_fields}
-use Rattle.cert_verify.proofs.certificate.TestLemmas.{held_more, all_held}
+use Rattle.check_heap.proofs.scan.ScanFieldLemmas.{word_inside, field_word, field_valid}
+use Rattle.check_heap.proofs.scan.ScanNeedLemmas.{need_field, need_node, some_fields}
+use Rattle.cert_verify.proofs.certificate.EntryTestLemmas.{held_more, all_held}
 use Rattle.cert_verify.proofs.certificate.right.each_backed.Goals as goal
 
 pub fields_at-words-requires : goal.fields_at-words-requires

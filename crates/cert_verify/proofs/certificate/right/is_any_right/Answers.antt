@@ -1,7 +1,7 @@
 use Rattle.std.proofs.Common.{◌∙◌, sym, arith}
 use Rattle.std.proofs.lemmas.Bool.{false≢true, OnTrue_at}
 use Rattle.types_table.specs.type_table.Made.{table_of}
-use Rattle.cert_verify.proofs.certificate.TestLemmas.{not_elsewhere, mutable_is}
+use Rattle.cert_verify.proofs.certificate.EntryTestLemmas.{not_elsewhere, mutable_is}
 use Rattle.cert_verify.proofs.certificate.RightLemmas.{worded_there}
 use Rattle.cert_verify.proofs.certificate.right.is_any_right.Goals as goal
 use Rattle.cert_verify.proofs.certificate.right.is_any_right.Goals.{else-is_mutable-via-then-is_mutable+else-not-is_at_one_type, else-is_mutable-via-else-is_mutable}

@@ -4,7 +4,7 @@ use Rattle.std.proofs.lemmas.Bool.{false≢true, OnTrue_from}
 use Rattle.std.proofs.lemmas.Option.{same_Some}
 use Rattle.types_table.specs.type_table.Made.{table_of}
 use Rattle.cert_verify.specs.certificate.Testing.{IsElsewhere}
-use Rattle.cert_verify.proofs.certificate.HeldLemmas.{passing_from}
+use Rattle.cert_verify.proofs.certificate.EntryHeldLemmas.{passing_from}
 use Rattle.cert_verify.proofs.certificate.right.is_at_one_type.Goals as goal
 use Rattle.cert_verify.proofs.certificate.right.is_at_one_type.Goals.{then-i-gt0+else-before-object, else-i-gt0}
 

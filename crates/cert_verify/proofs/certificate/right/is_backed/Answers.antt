@@ -1,7 +1,7 @@
 use Rattle.std.proofs.Common.{sym, subst}
 use Rattle.std.proofs.lemmas.Bool.{OnTrue_at, OnTrue_from}
 use Rattle.types_table.specs.type_table.Made.{table_of}
-use Rattle.check_heap.proofs.fits.RowLemmas.{is_reference}
+use Rattle.check_heap.proofs.fits.FitsRowLemmas.{is_reference}
 use Rattle.cert_verify.specs.certificate.Testing.{StandsAt}
 use Rattle.cert_verify.proofs.certificate.RightLemmas.{stands_backed, fits_backed}
 use Rattle.cert_verify.proofs.certificate.right.is_backed.Goals as goal

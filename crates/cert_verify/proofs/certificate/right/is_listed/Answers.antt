@@ -1,8 +1,8 @@
 use Rattle.std.proofs.Common.{◌∙◌, refl, sym, arith}
 use Rattle.std.proofs.lemmas.Bool.{false≢true, OnTrue_at, OnTrue_from}
 use Rattle.types_table.specs.type_table.Made.{table_of}
-use Rattle.check_heap.proofs.scan.NeedLemmas.{shape_wildcard}
-use Rattle.cert_verify.proofs.certificate.HeldLemmas.{stands_at}
+use Rattle.check_heap.proofs.scan.ScanNeedLemmas.{shape_wildcard}
+use Rattle.cert_verify.proofs.certificate.EntryHeldLemmas.{stands_at}
 use Rattle.cert_verify.proofs.certificate.right.is_listed.Goals as goal
 
 pub returns-then-is_at_own_position : goal.returns-then-is_at_own_position

@@ -4,9 +4,9 @@ use Rattle.std.proofs.lemmas.Bool.{false≢true}
 use Rattle.types_table.specs.type_table.Made.{table_of}
 use Rattle.marshal_heap.specs.heap.Heap.{field_at}
 use Rattle.check_heap.specs.fits.Needs.{needs_in}
-use Rattle.check_heap.proofs.scan.FieldLemmas.{word_inside, field_word, field_valid}
-use Rattle.check_heap.proofs.scan.NeedLemmas.{need_field, need_node, some_fields, shape_asked, shape_wildcard}
-use Rattle.cert_verify.proofs.certificate.TestLemmas.{held_more, all_held, missing_is}
+use Rattle.check_heap.proofs.scan.ScanFieldLemmas.{word_inside, field_word, field_valid}
+use Rattle.check_heap.proofs.scan.ScanNeedLemmas.{need_field, need_node, some_fields, shape_asked, shape_wildcard}
+use Rattle.cert_verify.proofs.certificate.EntryTestLemmas.{held_more, all_held, missing_is}
 use Rattle.cert_verify.proofs.certificate.test.first_missing.Goals as goal
 
 pub fields_at-words-requires : goal.fields_at-words-requires

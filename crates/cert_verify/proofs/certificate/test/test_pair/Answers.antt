@@ -5,8 +5,8 @@ use Rattle.types_table.specs.type_table.Made.{table_of}
 use Rattle.base_data.specs.declared.model.value.Val.TheVariants as vals
 use Rattle.types_spec.specs.types.Fitting.{fields_of}
 use Rattle.types_spec.specs.types.Table.{table_shapes, node_or_none}
-use Rattle.check_heap.proofs.scan.NeedLemmas.{never_unfit}
-use Rattle.cert_verify.proofs.certificate.TestLemmas.{settled, does_fit, not_elsewhere, mutable_is, right_is, unfit_is_first, missing_is_first, two_is_first}
+use Rattle.check_heap.proofs.scan.ScanNeedLemmas.{never_unfit}
+use Rattle.cert_verify.proofs.certificate.EntryTestLemmas.{settled, does_fit, not_elsewhere, mutable_is, right_is, unfit_is_first, missing_is_first, two_is_first}
 use Rattle.cert_verify.proofs.certificate.test.test_pair.Goals as goal
 use Rattle.cert_verify.proofs.certificate.test.test_pair.Goals.{else-is_mutable-via-then-is_mutable+else-is_elsewhere, else-is_mutable-via-else-is_mutable}
 

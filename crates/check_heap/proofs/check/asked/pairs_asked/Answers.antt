@@ -2,9 +2,9 @@ use Rattle.std.proofs.Common.{ℕ, ◌≡◌, ◌∙◌, [], length, Some, sym, 
 use Rattle.types_spec.specs.types.Fitting.{numbered_from}
 use Rattle.types_table.specs.type_table.Made.{table_of}
 use Rattle.base_data.proofs.model.Lists.{take-whole}
-use Rattle.check_heap.specs.check.Asked.{asked_pairs}
+use Rattle.check_heap.specs.check.AskedPairs.{asked_pairs}
 use Rattle.check_heap.proofs.check.ScannedLemmas.{numbered_there, length_numbered}
-use Rattle.check_heap.proofs.check.AskedLemmas.{asked_next}
+use Rattle.check_heap.proofs.check.CheckAskedLemmas.{asked_next}
 use Rattle.check_heap.proofs.check.asked.pairs_asked.Goals as goal
 
 pub loop-o-preserved : goal.loop-o-preserved

@@ -4,8 +4,8 @@ use Rattle.types_spec.specs.types.Fitting.{numbered_from}
 use Rattle.types_table.specs.type_table.Made.{table_of}
 use Rattle.check_heap.specs.scan.Scanned.{pairs_with}
 use Rattle.check_heap.specs.scan.Seconds.{noted_in}
-use Rattle.check_heap.specs.check.Asked.{asked_pairs, AreReached}
-use Rattle.check_heap.proofs.check.AskedLemmas.{asked_both}
+use Rattle.check_heap.specs.check.AskedPairs.{asked_pairs, AreReached}
+use Rattle.check_heap.proofs.check.CheckAskedLemmas.{asked_both}
 use Rattle.check_heap.proofs.check.asked.settled_typing.Goals as goal
 
 pub returns-then-are_asked : goal.returns-then-are_asked

@@ -1,7 +1,7 @@
 use Rattle.std.proofs.Common.{◌∙◌, sym}
 use Rattle.types_table.specs.type_table.Made.{table_of}
-use Rattle.check_heap.proofs.scan.NeedLemmas.{shape_asked, shape_wildcard}
-use Rattle.check_heap.proofs.check.AskedLemmas.{asked_one, wildcard_one}
+use Rattle.check_heap.proofs.scan.ScanNeedLemmas.{shape_asked, shape_wildcard}
+use Rattle.check_heap.proofs.check.CheckAskedLemmas.{asked_one, wildcard_one}
 use Rattle.check_heap.proofs.check.asked.write_if_asked.Goals as goal
 
 pub returns-then-not-is_asked : goal.returns-then-not-is_asked

@@ -3,8 +3,8 @@ use Rattle.types_table.specs.type_table.Made.{table_of}
 use Rattle.base_data.proofs.model.Lists.{take-whole}
 use Rattle.base_data.proofs.model.Options.{slice_get-Contains}
 use Rattle.check_heap.specs.scan.Seconds.{noted_in}
-use Rattle.check_heap.specs.check.Asked.{asked_pairs}
-use Rattle.check_heap.proofs.check.AskedLemmas.{asked_next}
+use Rattle.check_heap.specs.check.AskedPairs.{asked_pairs}
+use Rattle.check_heap.proofs.check.CheckAskedLemmas.{asked_next}
 use Rattle.check_heap.proofs.check.asked.write_noted.Goals as goal
 
 pub write_if_asked-requires : goal.write_if_asked-requires

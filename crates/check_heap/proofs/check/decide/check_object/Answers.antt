@@ -7,10 +7,10 @@ use Rattle.types_table.specs.type_table.Made.{table_of}
 use Rattle.check_heap.specs.scan.Paths.{HasPath, HavePaths}
 use Rattle.check_heap.specs.scan.Scanned.{Reports, IsScanned}
 use Rattle.check_heap.specs.check.Verdict.{IsYes}
-use Rattle.check_heap.proofs.scan.NeedLemmas.{shape_asked}
+use Rattle.check_heap.proofs.scan.ScanNeedLemmas.{shape_asked}
 use Rattle.check_heap.proofs.scan.ScanLemmas.{pair_at}
 use Rattle.check_heap.proofs.check.ScannedLemmas.{scanned_yes}
-use Rattle.check_heap.proofs.check.AskedLemmas.{reached_yes, reached_paths}
+use Rattle.check_heap.proofs.check.CheckAskedLemmas.{reached_yes, reached_paths}
 use Rattle.check_heap.proofs.check.decide.check_object.Goals as goal
 
 pub returns-in-Known-clause-verdict : goal.returns-in-Known-clause-verdict

@@ -7,11 +7,11 @@ use Rattle.types_spec.specs.types.Typing.{HasType}
 use Rattle.types_table.specs.type_table.Made.{table_of}
 use Rattle.check_heap.proofs.check.SpentLemmas.{taken_few}
 use Rattle.check_heap.specs.check.Conflict.{NoneConflict, IsFirstConflict}
-use Rattle.check_heap.specs.check.Search.{Searches}
+use Rattle.check_heap.specs.check.Search.{SearchesVisits}
 use Rattle.check_heap.specs.check.Verdict.{IsYes}
 use Rattle.check_heap.specs.check.Visits.{listed}
-use Rattle.check_heap.proofs.check.VisitLemmas.{all_within, visits_apart}
-use Rattle.check_heap.proofs.check.DecideLemmas.{first_explored, mismatch_verdict, conflict_verdict, yes_verdict, yes_paths}
+use Rattle.check_heap.proofs.check.CheckVisitLemmas.{all_within, visits_apart}
+use Rattle.check_heap.proofs.check.CheckDecideLemmas.{first_explored, mismatch_verdict, conflict_verdict, yes_verdict, yes_paths}
 use Rattle.check_heap.proofs.check.decide.search_object.Goals as goal
 
 pub search-requires-clause-explored : goal.search-requires-clause-explored
@@ -22,18 +22,18 @@ pub returns-in-Some-clause-verdict : goal.returns-in-Some-clause-verdict
 returns-in-Some-clause-verdict c =
     mismatch_verdict (table_of c.args.fitting.table.now) c.args.heap.now (listed c.in_ok-visits.visits) (listed c.search.new.visits) c.args.object c.in-Some.n c.in-Some.step c.in_ok-path.path c.push.new.self
     c.in_ok-visits.ensures.root
-    (subst (Searches (table_of c.args.fitting.table.now) c.args.heap.now (listed c.in_ok-visits.visits) (listed c.search.new.visits)) c.in-Some.is c.in_ok-n.ensures.searches)
+    (subst (SearchesVisits (table_of c.args.fitting.table.now) c.args.heap.now (listed c.in_ok-visits.visits) (listed c.search.new.visits)) c.in-Some.is c.in_ok-n.ensures.searches)
     c.in_ok-path.ensures
     c.in_ok-push.ensures.ok
 
 pub first_conflict-requires-clause-within : goal.first_conflict-requires-clause-within
 first_conflict-requires-clause-within c =
-    let searches = subst (Searches (table_of c.args.fitting.table.now) c.args.heap.now (listed c.in_ok-visits.visits) (listed c.search.new.visits)) c.in_default.is c.in_ok-n.ensures.searches in
+    let searches = subst (SearchesVisits (table_of c.args.fitting.table.now) c.args.heap.now (listed c.in_ok-visits.visits) (listed c.search.new.visits)) c.in_default.is c.in_ok-n.ensures.searches in
     all_within (table_of c.args.fitting.table.now) c.args.heap.now (listed c.search.new.visits) (length (listed c.search.new.visits)) 0 searches.tested
 
 pub first_conflict-requires-clause-apart : goal.first_conflict-requires-clause-apart
 first_conflict-requires-clause-apart c =
-    let searches = subst (Searches (table_of c.args.fitting.table.now) c.args.heap.now (listed c.in_ok-visits.visits) (listed c.search.new.visits)) c.in_default.is c.in_ok-n.ensures.searches in
+    let searches = subst (SearchesVisits (table_of c.args.fitting.table.now) c.args.heap.now (listed c.in_ok-visits.visits) (listed c.search.new.visits)) c.in_default.is c.in_ok-n.ensures.searches in
     λ j k v w. visits_apart (table_of c.args.fitting.table.now) c.args.heap.now (listed c.search.new.visits) (length (listed c.search.new.visits)) 0 j k v w searches.tested
 
 pub conflict-requires-clause-first : goal.conflict-requires-clause-first
@@ -51,7 +51,7 @@ returns-in_ok-fault-in-Some-first_conflict-clause-verdict c =
     let is : IsFirstConflict (table_of c.args.fitting.table.now) c.args.heap.now (listed c.search.new.visits) c.in-Some-first_conflict.first c.in-Some-first_conflict.second = c.in-Some-first_conflict.ensures in
     conflict_verdict (table_of c.args.fitting.table.now) c.args.heap.now (listed c.in_ok-visits.visits) (listed c.search.new.visits) c.args.object c.in-Some-first_conflict.first c.in-Some-first_conflict.second
     c.in_ok-fault-in-Some-first_conflict.fault c.holds.ensures.lawful c.in_ok-visits.ensures.root
-    (subst (Searches (table_of c.args.fitting.table.now) c.args.heap.now (listed c.in_ok-visits.visits) (listed c.search.new.visits)) c.in_default.is c.in_ok-n.ensures.searches)
+    (subst (SearchesVisits (table_of c.args.fitting.table.now) c.args.heap.now (listed c.in_ok-visits.visits) (listed c.search.new.visits)) c.in_default.is c.in_ok-n.ensures.searches)
     is
     c.in_ok-fault-in-Some-first_conflict.ensures
 
@@ -60,7 +60,7 @@ returns-in-None-clause-verdict c =
     let none : NoneConflict (table_of c.args.fitting.table.now) c.args.heap.now (listed c.search.new.visits) (length (listed c.search.new.visits)) = c.in-None.ensures in
     subst (λ pairs. HasType (table_shapes (table_of c.args.fitting.table.now)) c.args.heap.now (vals.Ref c.args.object) 0 × IsYes (table_of c.args.fitting.table.now) c.args.heap.now (vals.Ref c.args.object) pairs) (sym c.of.ensures)
     (yes_verdict (table_of c.args.fitting.table.now) c.args.heap.now (listed c.in_ok-visits.visits) (listed c.search.new.visits) c.args.object c.in_ok-visits.ensures.root
-    (subst (Searches (table_of c.args.fitting.table.now) c.args.heap.now (listed c.in_ok-visits.visits) (listed c.search.new.visits)) c.in_default.is c.in_ok-n.ensures.searches)
+    (subst (SearchesVisits (table_of c.args.fitting.table.now) c.args.heap.now (listed c.in_ok-visits.visits) (listed c.search.new.visits)) c.in_default.is c.in_ok-n.ensures.searches)
     none)
 
 pub returns-in_err-visits-clause-steps : goal.returns-in_err-visits-clause-steps
@@ -72,7 +72,7 @@ pub returns-in-None-clause-paths : goal.returns-in-None-clause-paths
 returns-in-None-clause-paths c =
     let table = table_of c.args.fitting.table.now in
     let graph = c.args.heap.now in
-    let searches = subst (Searches table graph (listed c.in_ok-visits.visits) (listed c.search.new.visits)) c.in_default.is c.in_ok-n.ensures.searches in
+    let searches = subst (SearchesVisits table graph (listed c.in_ok-visits.visits) (listed c.search.new.visits)) c.in_default.is c.in_ok-n.ensures.searches in
     λ o t among.
     yes_paths table graph (listed c.in_ok-visits.visits) (listed c.search.new.visits) c.args.object c.in_ok-visits.ensures.root searches o t
     (subst (λ pairs. Contains pairs (o, t)) c.of.ensures among)

@@ -4,8 +4,8 @@ use Rattle.types_table.specs.type_table.Made.{table_of}
 use Rattle.check_heap.specs.scan.Scanned.{pairs_with}
 use Rattle.check_heap.specs.scan.Seconds.{noted_in}
 use Rattle.check_heap.specs.check.Settled.{IsSettled, cost_of_pairs}
-use Rattle.check_heap.proofs.check.SettledLemmas.{settled_yes, settled_cases, settled_few}
-use Rattle.check_heap.proofs.check.AskedLemmas.{reached_yes, reached_paths}
+use Rattle.check_heap.proofs.check.CheckSettledLemmas.{settled_yes, settled_cases, settled_few}
+use Rattle.check_heap.proofs.check.CheckAskedLemmas.{reached_yes, reached_paths}
 use Rattle.check_heap.proofs.check.decide.settle_noted.Goals as goal
 
 pub settle-requires : goal.settle-requires

@@ -1,7 +1,7 @@
 use Rattle.std.proofs.Common.{sym, subst}
 use Rattle.types_table.specs.type_table.Made.{table_of}
 use Rattle.check_heap.specs.check.Met.{AreAllMet}
-use Rattle.check_heap.proofs.check.MetLemmas.{none_met}
+use Rattle.check_heap.proofs.check.CheckMetLemmas.{none_met}
 use Rattle.check_heap.proofs.check.meetings.met.Goals as goal
 
 pub returns-in_ok-visits-in_default : goal.returns-in_ok-visits-in_default

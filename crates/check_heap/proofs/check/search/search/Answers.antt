@@ -2,7 +2,7 @@ use Rattle.std.proofs.Common.{◌<◌, length, subst}
 use Rattle.types_table.specs.type_table.Made.{table_of}
 use Rattle.check_heap.specs.check.Search.{TestsVisit}
 use Rattle.check_heap.specs.check.Visits.{listed}
-use Rattle.check_heap.proofs.check.TestLemmas.{search_few, searched_few, searching_more}
+use Rattle.check_heap.proofs.check.CheckTestLemmas.{search_few, searched_few, searching_more}
 use Rattle.check_heap.proofs.check.search.search.Goals as goal
 
 pub returns-in_err-step-clause-steps : goal.returns-in_err-step-clause-steps

@@ -4,8 +4,8 @@ use Rattle.base_data.specs.declared.model.value.Val.TheVariants as vals
 use Rattle.types_spec.specs.types.Fitting.{fields_of}
 use Rattle.types_spec.specs.types.Table.{node_or_none}
 use Rattle.types_table.specs.type_table.Made.{table_of}
-use Rattle.check_heap.proofs.check.VisitLemmas.{visit_within, visit_fits}
-use Rattle.check_heap.proofs.scan.NeedLemmas.{never_unfit}
+use Rattle.check_heap.proofs.check.CheckVisitLemmas.{visit_within, visit_fits}
+use Rattle.check_heap.proofs.scan.ScanNeedLemmas.{never_unfit}
 use Rattle.check_heap.specs.check.Visits.{listed}
 use Rattle.check_heap.proofs.check.search.take_visit.Goals as goal
 

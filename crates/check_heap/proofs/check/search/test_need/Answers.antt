@@ -3,15 +3,15 @@ use Rattle.std.specs.Bool.{OnTrue}
 use Rattle.std.proofs.lemmas.Bool.{false≢true}
 use Rattle.types_table.specs.type_table.Made.{table_of}
 use Rattle.marshal_heap.specs.heap.Heap.{field_at}
-use Rattle.marshal_heap.proofs.heap.ReadLemmas.{word_of-inj}
+use Rattle.marshal_heap.proofs.heap.HeapReadLemmas.{word_of-inj}
 use Rattle.base_data.specs.declared.model.value.Val.TheVariants as vals
 use Rattle.types_spec.specs.types.Table.{table_shapes}
 use Rattle.check_heap.specs.scan.Scanned.{IsSeen}
 use Rattle.check_heap.specs.check.Visits.{listed}
-use Rattle.check_heap.proofs.scan.PositionLemmas.{read_at}
+use Rattle.check_heap.proofs.scan.ScanPositionLemmas.{read_at}
 use Rattle.check_heap.specs.scan.Classed.{Has}
-use Rattle.check_heap.proofs.check.NotedLemmas.{met_first}
-use Rattle.check_heap.proofs.scan.FieldLemmas.{field_there, field_valid}
+use Rattle.check_heap.proofs.check.CheckNotedLemmas.{met_first}
+use Rattle.check_heap.proofs.scan.ScanFieldLemmas.{field_there, field_valid}
 use Rattle.check_heap.proofs.check.RowsLemmas.{first_fits, tests_true, tests_false, enters_named}
 use Rattle.check_heap.proofs.check.search.test_need.Goals as goal
 

@@ -4,14 +4,14 @@ use Rattle.types_table.specs.type_table.Made.{table_of}
 use Rattle.check_heap.specs.declared.check.search.RequiredField.{RequiredField}
 use Rattle.check_heap.specs.check.Search.{TestsNeed, visit_fields}
 use Rattle.base_data.proofs.model.Options.{slice_get-Contains}
-use Rattle.check_heap.specs.scan.Taken.{size_of}
+use Rattle.check_heap.specs.scan.TakenObjects.{size_of}
 use Rattle.check_heap.proofs.check.SeenLemmas.{reach_more, few_rest, need_few}
-use Rattle.check_heap.proofs.check.VisitLemmas.{IsNeedOf, visit_within, visit_fits, types_within, testing_first, testing_more, testing_wildcard, testing_until, testing_all}
-use Rattle.types_spec.proofs.types.AskedLemmas.{typed_needed}
+use Rattle.check_heap.proofs.check.CheckVisitLemmas.{IsNeedOf, visit_within, visit_fits, types_within, testing_first, testing_more, testing_wildcard, testing_until, testing_all}
+use Rattle.types_spec.proofs.types.TypeAskedLemmas.{typed_needed}
 use Rattle.base_data.specs.declared.model.value.Val.TheVariants as vals
-use Rattle.check_heap.proofs.scan.NeedLemmas.{increase, need_field, need_node, some_fields, shape_asked, shape_wildcard}
+use Rattle.check_heap.proofs.scan.ScanNeedLemmas.{increase, need_field, need_node, some_fields, shape_asked, shape_wildcard}
 use Rattle.check_heap.specs.check.Visits.{listed}
-use Rattle.check_heap.proofs.scan.FieldLemmas.{word_inside, field_word}
+use Rattle.check_heap.proofs.scan.ScanFieldLemmas.{word_inside, field_word}
 use Rattle.check_heap.proofs.check.search.test_needs.Goals as goal
 
 pub take_need-requires-clause-object : goal.take_need-requires-clause-object

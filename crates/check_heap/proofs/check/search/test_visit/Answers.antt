@@ -1,6 +1,6 @@
 use Rattle.std.proofs.Common.{◌<◌, sym, subst}
 use Rattle.types_table.specs.type_table.Made.{table_of}
-use Rattle.check_heap.proofs.check.VisitLemmas.{visit_within}
+use Rattle.check_heap.proofs.check.CheckVisitLemmas.{visit_within}
 use Rattle.check_heap.specs.check.Visits.{listed}
 use Rattle.check_heap.proofs.check.search.test_visit.Goals as goal
 

@@ -3,7 +3,7 @@ use Rattle.std.specs.Bool.{OnTrue}
 use Rattle.types_table.specs.type_table.Made.{table_of}
 use Rattle.marshal_heap.specs.heap.Heap.{field_at}
 use Rattle.check_heap.specs.scan.Scanned.{IsSeen}
-use Rattle.check_heap.proofs.scan.FieldLemmas.{field_valid}
+use Rattle.check_heap.proofs.scan.ScanFieldLemmas.{field_valid}
 use Rattle.check_heap.proofs.check.SeenLemmas.{value_seen}
 use Rattle.check_heap.proofs.check.search.value_fits.Goals as goal
 

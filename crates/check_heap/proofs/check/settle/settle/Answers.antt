@@ -4,7 +4,7 @@ use Rattle.base_data.proofs.model.Options.{slice_get_there}
 use Rattle.types_table.specs.type_table.Made.{table_of}
 use Rattle.check_heap.specs.scan.Seconds.{noted_in}
 use Rattle.check_heap.specs.check.Settled.{Settles, IsSettling, cost_of_pairs}
-use Rattle.check_heap.proofs.check.SettleLemmas.{counting_none, counting_more}
+use Rattle.check_heap.proofs.check.CheckSettleLemmas.{counting_none, counting_more}
 use Rattle.check_heap.proofs.check.settle.settle.Goals as goal
 
 pub loop-n-init : goal.loop-n-init

@@ -4,13 +4,13 @@ use Rattle.std.proofs.lemmas.Bool.{OnTrue_from}
 use Rattle.base_data.specs.declared.model.value.Val.TheVariants as vals
 use Rattle.types_table.specs.type_table.Made.{table_of}
 use Rattle.marshal_heap.specs.heap.Heap.{field_at, word_of}
-use Rattle.marshal_heap.proofs.heap.ReadLemmas.{word_of-inj}
-use Rattle.check_heap.proofs.scan.FieldLemmas.{field_valid}
-use Rattle.check_heap.proofs.scan.NeedLemmas.{need_field, need_node}
-use Rattle.check_heap.proofs.scan.PathLemmas.{need_path}
-use Rattle.check_heap.proofs.scan.PositionLemmas.{read_at}
-use Rattle.check_heap.specs.check.Settled.{Finds}
-use Rattle.check_heap.proofs.check.SettleLemmas.{even_word, finds_value, finds_first, finds_noted}
+use Rattle.marshal_heap.proofs.heap.HeapReadLemmas.{word_of-inj}
+use Rattle.check_heap.proofs.scan.ScanFieldLemmas.{field_valid}
+use Rattle.check_heap.proofs.scan.ScanNeedLemmas.{need_field, need_node}
+use Rattle.check_heap.proofs.scan.ScanPathLemmas.{need_path}
+use Rattle.check_heap.proofs.scan.ScanPositionLemmas.{read_at}
+use Rattle.check_heap.specs.check.Settled.{FindsValue}
+use Rattle.check_heap.proofs.check.CheckSettleLemmas.{even_word, finds_value, finds_first, finds_noted}
 use Rattle.check_heap.proofs.check.settle.settle_need.Goals as goal
 
 pub fits_type-requires-clause-word : goal.fits_type-requires-clause-word
@@ -84,7 +84,7 @@ returns-then-class c =
     let valid = field_valid graph c.args._object c.args._field c.requires.object short c.count-count.ensures.heap.is_graph in
     let same : v ≡ vals.Ref p = word_of-inj graph v (vals.Ref p) c.count-count.ensures.heap.is_graph valid c.number-object.ensures.in_range (sym c.requires.word ∙ c.number-object.ensures.named) in
     record {
-      finds = subst (λ w. Finds t graph c.args.types.now c.args.seconds.now c.args.seconds.now w c.args.needed) (sym same)
+      finds = subst (λ w. FindsValue t graph c.args.types.now c.args.seconds.now c.args.seconds.now w c.args.needed) (sym same)
           (finds_first t graph c.args.types.now c.args.seconds.now p c.get-first.result c.args.needed c.requires.over at_first
           (c.class.ensures ∙ ap (λ n. Some n) c.if-class.true ∙ sym c.class-2.ensures));
     }
@@ -103,7 +103,7 @@ returns c =
     let valid = field_valid graph c.args._object c.args._field c.requires.object short c.count-count.ensures.heap.is_graph in
     let same : v ≡ vals.Ref p = word_of-inj graph v (vals.Ref p) c.count-count.ensures.heap.is_graph valid c.number-object.ensures.in_range (sym c.requires.word ∙ c.number-object.ensures.named) in
     record {
-      finds = subst (λ w. Finds t graph c.args.types.now c.args.seconds.now c.note.new.self w c.args.needed) (sym same)
+      finds = subst (λ w. FindsValue t graph c.args.types.now c.args.seconds.now c.note.new.self w c.args.needed) (sym same)
           (finds_noted t graph c.args.types.now c.args.seconds.now c.note.new.self p c.args.needed c.requires.over c.in_ok-note.ensures.seconds c.in_ok-note.ensures.notes
           (record {
             inside = c.number-object.ensures.in_range;

@@ -3,10 +3,10 @@ use Rattle.std.specs.Bool.{OnTrue}
 use Rattle.std.specs.Prelude.{length, slice_get}
 use Rattle.types_table.specs.type_table.Made.{table_of}
 use Rattle.marshal_heap.specs.heap.Heap.{field_at}
-use Rattle.check_heap.proofs.scan.FieldLemmas.{word_inside, field_word}
-use Rattle.check_heap.proofs.scan.NeedLemmas.{need_field, need_node, some_fields, shape_asked, shape_wildcard}
-use Rattle.check_heap.specs.check.Settled.{Finds}
-use Rattle.check_heap.proofs.check.SettleLemmas.{finds_more, finds_wildcard}
+use Rattle.check_heap.proofs.scan.ScanFieldLemmas.{word_inside, field_word}
+use Rattle.check_heap.proofs.scan.ScanNeedLemmas.{need_field, need_node, some_fields, shape_asked, shape_wildcard}
+use Rattle.check_heap.specs.check.Settled.{FindsValue}
+use Rattle.check_heap.proofs.check.CheckSettleLemmas.{finds_more, finds_wildcard}
 use Rattle.check_heap.proofs.check.settle.settle_needs.Goals as goal
 
 pub fields-words-requires : goal.fields-words-requires
@@ -47,7 +47,7 @@ loop-k-preserved c =
     let i = c.get-field.result.0 in
     let a = c.get-field.result.1 in
     let at_k = ap (λ needs. slice_get needs c.loop-k.k) c.requires.needs ∙ c.get-field.ensures in
-    let finds = subst (λ test. OnTrue test (Finds t graph c.args.types.now c.loop-k.seconds c.settle_need.new.seconds (field_at graph c.args.object i) a)) c.if-not-branch.false c.in_ok-settle_need.ensures.finds in
+    let finds = subst (λ test. OnTrue test (FindsValue t graph c.args.types.now c.loop-k.seconds c.settle_need.new.seconds (field_at graph c.args.object i) a)) c.if-not-branch.false c.in_ok-settle_need.ensures.finds in
     finds_more t graph c.args.types.now c.args.seconds.now c.loop-k.seconds c.settle_need.new.seconds c.args.object c.args.ty c.loop-k.k i a c.loop-k.invariant finds.over finds.extends (λ asked. finds.found) at_k
 
 -- ---- a field of an unconstrained type

@@ -9,12 +9,12 @@ use Rattle.types_spec.specs.types.Fitting.{fields_of, is_mutable}
 use Rattle.types_spec.specs.types.Table.{node_or_none}
 use Rattle.types_table.specs.type_table.Made.{table_of}
 use Rattle.check_heap.specs.scan.Seconds.{noted_in}
-use Rattle.check_heap.specs.scan.Taken.{size_of}
+use Rattle.check_heap.specs.scan.TakenObjects.{size_of}
 use Rattle.check_heap.specs.scan.Scanned.{object_typed}
-use Rattle.check_heap.proofs.scan.PositionLemmas.{read_at}
-use Rattle.check_heap.proofs.scan.NeedLemmas.{needs_are, needs_few}
+use Rattle.check_heap.proofs.scan.ScanPositionLemmas.{read_at}
+use Rattle.check_heap.proofs.scan.ScanNeedLemmas.{needs_are, needs_few}
 use Rattle.check_heap.specs.check.Settled.{FindsNeeds}
-use Rattle.check_heap.proofs.check.SettleLemmas.{settling_more}
+use Rattle.check_heap.proofs.check.CheckSettleLemmas.{settling_more}
 use Rattle.check_heap.proofs.check.settle.settle_pair.Goals as goal
 
 pub word-word-requires : goal.word-word-requires

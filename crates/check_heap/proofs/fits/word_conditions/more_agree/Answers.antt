@@ -1,6 +1,6 @@
 use Rattle.std.proofs.Common.{◌+◌, ◌<◌, ◌∙◌, length, sym, arith}
 use Rattle.base_data.proofs.model.Options.{slice_get_there}
-use Rattle.check_heap.proofs.fits.RowLemmas.{agree_more, all_agree}
+use Rattle.check_heap.proofs.fits.FitsRowLemmas.{agree_more, all_agree}
 use Rattle.check_heap.proofs.fits.word_conditions.more_agree.Goals as goal
 
 pub loop-more-preserved : goal.loop-more-preserved

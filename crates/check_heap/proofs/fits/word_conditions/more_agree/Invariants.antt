@@ -1,5 +1,5 @@
 use Rattle.std.proofs.Common.{◌-◌}
-use Rattle.check_heap.specs.fits.Row.{AgreeTo}
+use Rattle.check_heap.specs.fits.ObjectRow.{AgreeTo}
 use Rattle.check_heap.proofs.fits.word_conditions.more_agree.Given as goal
 
 abbrev pub invariant-loop-more : goal.invariant-loop-more

@@ -2,9 +2,9 @@ use Rattle.std.proofs.Common.{◌∙◌, sym, ap, subst}
 use Rattle.std.specs.Prelude.{IsSome}
 use Rattle.types_spec.specs.types.Fitting.{fields_of}
 use Rattle.types_spec.specs.types.Table.{node_or_none}
-use Rattle.marshal_heap.proofs.heap.ReadLemmas.{word_of-inj}
+use Rattle.marshal_heap.proofs.heap.HeapReadLemmas.{word_of-inj}
 use Rattle.check_heap.specs.fits.Needs.{needs_in}
-use Rattle.check_heap.proofs.scan.RowLemmas.{some_mapped}
+use Rattle.check_heap.proofs.scan.ScanRowLemmas.{some_mapped}
 use Rattle.check_heap.proofs.scan.fitting.fits_by_kind.Goals as goal
 
 pub returns : goal.returns

@@ -7,11 +7,11 @@ use Rattle.base_data.specs.declared.model.value.Val.TheVariants as vals
 use Rattle.types_spec.specs.types.Table.{is_asked_in}
 use Rattle.marshal_heap.specs.heap.Heap.{word_of}
 use Rattle.types_table.specs.type_table.Made.{table_of}
-use Rattle.check_heap.proofs.fits.RowLemmas.{is_reference}
-use Rattle.check_heap.proofs.scan.MarkLemmas.{known, marked_met, marks_more}
-use Rattle.check_heap.proofs.scan.PathLemmas.{same_from_key}
+use Rattle.check_heap.proofs.fits.FitsRowLemmas.{is_reference}
+use Rattle.check_heap.proofs.scan.ScanMarkLemmas.{known, marked_met, marks_more}
+use Rattle.check_heap.proofs.scan.ScanPathLemmas.{same_from_key}
 use Rattle.check_heap.specs.scan.Scan.{AreMarks, IsMet}
-use Rattle.check_heap.proofs.scan.NeedLemmas.{shape_asked}
+use Rattle.check_heap.proofs.scan.ScanNeedLemmas.{shape_asked}
 use Rattle.check_heap.proofs.scan.straight.meet.Goals as goal
 
 pub returns-then-mark-eq0-clause-met : goal.returns-then-mark-eq0-clause-met

@@ -5,7 +5,7 @@ use Rattle.types_spec.specs.types.Fitting.{fields_of}
 use Rattle.types_spec.specs.types.Table.{node_or_none}
 use Rattle.check_heap.specs.declared.fits.needs.Needs.TheVariants as needs
 use Rattle.types_table.specs.type_table.Made.{table_of}
-use Rattle.check_heap.proofs.scan.NeedLemmas.{needs_are}
+use Rattle.check_heap.proofs.scan.ScanNeedLemmas.{needs_are}
 use Rattle.check_heap.proofs.scan.straight.meet_all.Goals as goal
 
 pub meet_counted-requires-then-needs_nothing-clause-needs : goal.meet_counted-requires-then-needs_nothing-clause-needs

@@ -5,9 +5,9 @@ use Rattle.types_table.specs.type_table.Made.{table_of}
 use Rattle.marshal_heap.specs.heap.Heap.{field_at}
 use Rattle.check_heap.specs.fits.Needs.{needs_in}
 use Rattle.check_heap.specs.scan.Scan.{Continues, IsUnfit}
-use Rattle.check_heap.proofs.scan.FieldLemmas.{word_inside, field_word}
-use Rattle.check_heap.proofs.scan.NeedLemmas.{need_field, some_fields}
-use Rattle.check_heap.proofs.scan.MarkLemmas.{meeting_first, unfit_is_asked}
+use Rattle.check_heap.proofs.scan.ScanFieldLemmas.{word_inside, field_word}
+use Rattle.check_heap.proofs.scan.ScanNeedLemmas.{need_field, some_fields}
+use Rattle.check_heap.proofs.scan.ScanMarkLemmas.{meeting_first, unfit_is_asked}
 use Rattle.check_heap.proofs.scan.straight.meet_each.Goals as goal
 
 pub fields_at-words-requires : goal.fields_at-words-requires

@@ -8,13 +8,13 @@ use Rattle.types_table.specs.type_table.Made.{table_of}
 use Rattle.std.specs.Prelude.{IsTrue}
 use Rattle.types_spec.specs.types.Table.{table_shapes, is_asked_in}
 use Rattle.marshal_heap.specs.heap.Heap.{field_at, word_of}
-use Rattle.marshal_heap.proofs.heap.ReadLemmas.{word_of-inj}
-use Rattle.check_heap.proofs.fits.RowLemmas.{is_reference}
+use Rattle.marshal_heap.proofs.heap.HeapReadLemmas.{word_of-inj}
+use Rattle.check_heap.proofs.fits.FitsRowLemmas.{is_reference}
 use Rattle.check_heap.specs.scan.Scan.{first_of, IsMet, IsOther}
-use Rattle.check_heap.proofs.scan.FieldLemmas.{field_valid}
-use Rattle.check_heap.proofs.scan.NeedLemmas.{need_field, need_node, shape_asked, shape_wildcard}
-use Rattle.check_heap.proofs.scan.PathLemmas.{need_path, typed_asked}
-use Rattle.check_heap.proofs.scan.MarkLemmas.{meeting_more, meeting_kept, meeting_noted, word_unfit}
+use Rattle.check_heap.proofs.scan.ScanFieldLemmas.{field_valid}
+use Rattle.check_heap.proofs.scan.ScanNeedLemmas.{need_field, need_node, shape_asked, shape_wildcard}
+use Rattle.check_heap.proofs.scan.ScanPathLemmas.{need_path, typed_asked}
+use Rattle.check_heap.proofs.scan.ScanMarkLemmas.{meeting_more, meeting_kept, meeting_noted, word_unfit}
 use Rattle.check_heap.proofs.scan.straight.meet_need.Goals as goal
 
 pub meet-requires-clause-word : goal.meet-requires-clause-word

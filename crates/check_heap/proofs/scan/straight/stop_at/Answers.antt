@@ -10,7 +10,7 @@ use Rattle.check_heap.specs.declared.scan.taken_objects.ScanMismatch.TheVariants
 use Rattle.check_heap.specs.scan.Scanned.{object_typed}
 use Rattle.check_heap.specs.scan.Scan.{mark_of, Stops, IsInRow}
 use Rattle.check_heap.proofs.scan.IncreaseLemmas.{position_within}
-use Rattle.check_heap.proofs.scan.NeedLemmas.{increase, need_field}
+use Rattle.check_heap.proofs.scan.ScanNeedLemmas.{increase, need_field}
 use Rattle.check_heap.proofs.scan.StopLemmas.{before_taken, until_taken, until_few, field_sees, nothing_sees}
 use Rattle.check_heap.proofs.scan.straight.stop_at.Goals as goal
 

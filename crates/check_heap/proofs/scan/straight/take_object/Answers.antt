@@ -8,7 +8,7 @@ use Rattle.types_table.specs.type_table.Made.{table_of}
 use Rattle.check_heap.specs.scan.Seconds.{noted_in}
 use Rattle.check_heap.specs.scan.Scan.{mark_of, IsTried, IsInRow, Stops, AreNotes, IsScanning}
 use Rattle.check_heap.proofs.scan.ScanLemmas.{scanning_more, scanning_kept}
-use Rattle.check_heap.proofs.scan.PositionLemmas.{slice_set_at}
+use Rattle.check_heap.proofs.scan.ScanPositionLemmas.{slice_set_at}
 use Rattle.check_heap.proofs.scan.NoteLemmas.{notes_within, notes_turned, whole_notes}
 use Rattle.check_heap.proofs.scan.straight.take_object.Goals as goal
 

@@ -1,8 +1,8 @@
 use Rattle.std.proofs.Common.{rules, ◌<◌, take, ap, subst}
 use Rattle.types_table.specs.type_table.Made.{table_of}
-use Rattle.check_stream.specs.checker.Positions.{need_of}
+use Rattle.check_stream.specs.checker.OpenPositions.{need_of}
 use Rattle.check_stream.specs.checker.Again.{IsReference, IsKnown}
-use Rattle.check_stream.proofs.checker.ChunkLemmas.{rest_from}
+use Rattle.check_stream.proofs.checker.CheckerChunkLemmas.{rest_from}
 use Rattle.check_stream.proofs.checker.Weaker.{if_true}
 use Rattle.check_stream.proofs.checker.back.back.Goals as goal
 

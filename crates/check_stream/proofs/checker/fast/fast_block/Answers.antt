@@ -1,8 +1,8 @@
 use Rattle.std.proofs.Common.{rules, ◌≡◌, ◌+◌, ◌∙◌, ◌++◌, ap, sym, ◌-◌}
 use Rattle.std.specs.Prelude.{option_map}
 use Rattle.types_table.specs.type_table.Made.{table_of}
-use Rattle.check_stream.specs.theory.Asked.{shape_asks}
-use Rattle.check_stream.specs.checker.Positions.{open_needs, waiting_needs}
+use Rattle.check_stream.specs.theory.AskedNeeds.{shape_asks}
+use Rattle.check_stream.specs.checker.OpenPositions.{open_needs, waiting_needs}
 use Rattle.check_stream.specs.checker.Fast.{held}
 use Rattle.check_stream.proofs.checker.StateLemmas.{took_block}
 use Rattle.check_stream.proofs.checker.fast.fast_block.Goals as goal

@@ -5,11 +5,11 @@ use Rattle.base_data.specs.model.Graph.{IsInteger}
 use Rattle.base_data.proofs.model.Numbers.{are_bytes}
 use Rattle.types_spec.specs.types.Fitting.{fits_int, fits_atom}
 use Rattle.types_table.specs.type_table.Made.{table_of}
-use Rattle.check_stream.specs.theory.Asked.{of_type, shape_at, IsBackAt}
+use Rattle.check_stream.specs.theory.AskedNeeds.{of_type, shape_at, IsBackAt}
 use Rattle.check_stream.specs.checker.Fast.{held}
 use Rattle.check_stream.proofs.checker.Weaker.{match_option_weaker}
 use Rattle.check_stream.proofs.checker.StateLemmas.{took_integer, took_atom, took_shared}
-use Rattle.check_stream.proofs.checker.ChunkLemmas.{at_atom, at_word, at_small_int, at_small_string, at_int, at_shared, at_str, at_double}
+use Rattle.check_stream.proofs.checker.CheckerChunkLemmas.{at_atom, at_word, at_small_int, at_small_string, at_int, at_shared, at_str, at_double}
 use Rattle.check_stream.proofs.checker.fast.fast_chunk.Goals as goal
 
 pub returns-then-is_fast_int : goal.returns-then-is_fast_int

@@ -1,10 +1,10 @@
 use Rattle.std.proofs.Common.{rules, ◌≡◌, ◌<◌, ◌≤◌, length, take, drop, get_or, Ok, subst}
 use Rattle.marshal_spec.specs.format.Code.{kind_of}
 use Rattle.types_table.specs.type_table.Made.{table_of}
-use Rattle.check_stream.specs.theory.Asked.{of_type}
+use Rattle.check_stream.specs.theory.AskedNeeds.{of_type}
 use Rattle.check_stream.specs.checker.Fast.{held}
-use Rattle.check_stream.specs.checker.State.{TookChunk}
-use Rattle.check_stream.proofs.checker.ChunkLemmas.{rest_from, with_code}
+use Rattle.check_stream.specs.checker.CheckerState.{TookChunk}
+use Rattle.check_stream.proofs.checker.CheckerChunkLemmas.{rest_from, with_code}
 use Rattle.check_stream.proofs.checker.fast.fast_kind.Goals as goal
 
 pub returns-in-Some-fast_chunk : goal.returns-in-Some-fast_chunk

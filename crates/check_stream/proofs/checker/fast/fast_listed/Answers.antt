@@ -1,7 +1,7 @@
 use Rattle.std.proofs.Common.{◌++◌, refl, ap}
-use Rattle.check_stream.specs.theory.Asked.{of_type}
+use Rattle.check_stream.specs.theory.AskedNeeds.{of_type}
 use Rattle.check_stream.specs.checker.Fast.{held}
-use Rattle.check_stream.specs.checker.Positions.{waiting_needs}
+use Rattle.check_stream.specs.checker.OpenPositions.{waiting_needs}
 use Rattle.check_stream.specs.declared.checker.open_positions.BlockPositions.TheVariants as opens
 use Rattle.check_stream.specs.declared.checker.check_state.CheckState.{CheckState}
 use Rattle.check_stream.proofs.checker.Weaker.{match_option_weaker}

@@ -1,9 +1,9 @@
 use Rattle.std.proofs.Common.{ℕ, zero, suc, ◌≡◌, ◌/◌, ◌%◌, ◌<◌, ◌≤◌, arith, refl, sym, subst}
 use Rattle.marshal_spec.specs.format.Token.{block, block_or_atom}
 use Rattle.types_table.specs.type_table.Made.{table_of}
-use Rattle.check_stream.specs.theory.Asked.{of_type}
+use Rattle.check_stream.specs.theory.AskedNeeds.{of_type}
 use Rattle.check_stream.specs.checker.Fast.{held}
-use Rattle.check_stream.specs.checker.State.{Took}
+use Rattle.check_stream.specs.checker.CheckerState.{Took}
 use Rattle.check_stream.proofs.checker.Weaker.{match_option_weaker}
 use Rattle.check_stream.proofs.checker.fast.fast_word.Goals as goal
 

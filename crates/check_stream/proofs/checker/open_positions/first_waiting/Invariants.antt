@@ -1,5 +1,5 @@
 use Rattle.std.proofs.Common.{◌≡◌, vec_len}
-use Rattle.check_stream.specs.checker.Positions.{waiting_needs}
+use Rattle.check_stream.specs.checker.OpenPositions.{waiting_needs}
 use Rattle.check_stream.proofs.checker.open_positions.first_waiting.Given as goal
 
 -- The requirements of the positions on the stack are unchanged since the call.

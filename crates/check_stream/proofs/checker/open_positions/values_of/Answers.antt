@@ -1,9 +1,9 @@
 use Rattle.std.proofs.Common.{◌∙◌, sym, ap}
-use Rattle.check_stream.specs.theory.Asked.{values_in}
+use Rattle.check_stream.specs.theory.AskedNeeds.{values_in}
 use Rattle.check_stream.proofs.theory.BlockLemmas.{values_of_types}
-use Rattle.check_stream.specs.checker.Positions.{open_needs}
+use Rattle.check_stream.specs.checker.OpenPositions.{open_needs}
 use Rattle.check_stream.specs.declared.checker.open_positions.BlockPositions.{BlockPositions}
-use Rattle.check_stream.proofs.checker.PositionLemmas.{values_each}
+use Rattle.check_stream.proofs.checker.CheckerPositionLemmas.{values_each}
 use Rattle.check_stream.proofs.checker.open_positions.values_of.Goals as goal
 
 pub returns-in-Listed : goal.returns-in-Listed

@@ -1,10 +1,10 @@
 use Rattle.std.proofs.Common.{rules, ◌≡◌, ◌∙◌, ◌∷◌, ◌++◌, ◌-◌, length, ap, subst, subst₂, refl, arith}
 use Rattle.types_table.specs.type_table.Made.{table_of}
-use Rattle.check_stream.specs.checker.Positions.{need_of}
+use Rattle.check_stream.specs.checker.OpenPositions.{need_of}
 use Rattle.check_stream.specs.checker.Fast.{held}
-use Rattle.check_stream.specs.checker.State.{types_in, needs_in, IsLeft, IsMarked, IsSpent, TookPrefix, TookTurn}
+use Rattle.check_stream.specs.checker.CheckerState.{types_in, needs_in, IsLeft, IsMarked, IsSpent, TookPrefix, TookTurn}
 use Rattle.check_stream.specs.declared.checker.check_state.CheckState.{CheckState}
-use Rattle.check_stream.proofs.checker.RunLemmas.{leads_from, leads_marked, leads_further, leads_turn, leads_end, leads_again, some_need, left_further}
+use Rattle.check_stream.proofs.checker.CheckerRunLemmas.{leads_from, leads_marked, leads_further, leads_turn, leads_end, leads_again, some_need, left_further}
 use Rattle.check_stream.proofs.checker.whole.run.Goals as goal
 
 pub is_spent-requires : goal.is_spent-requires

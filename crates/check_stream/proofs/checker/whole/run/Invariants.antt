@@ -1,6 +1,6 @@
 use Rattle.std.proofs.Common.{length}
 use Rattle.types_table.specs.type_table.Made.{table_of}
-use Rattle.check_stream.specs.checker.State.{IsLeft}
+use Rattle.check_stream.specs.checker.CheckerState.{IsLeft}
 use Rattle.check_stream.proofs.checker.whole.run.Given as goal
 
 -- The bytes before the remaining bytes lead to the current state.

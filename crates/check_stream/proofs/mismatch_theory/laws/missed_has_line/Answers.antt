@@ -1,4 +1,4 @@
-use Rattle.check_stream.proofs.mismatch_theory.LineLemmas.{missed_has_line}
+use Rattle.check_stream.proofs.mismatch_theory.MismatchLineLemmas.{missed_has_line}
 use Rattle.check_stream.proofs.mismatch_theory.laws.missed_has_line.Goals as goal
 
 pub returns : goal.returns

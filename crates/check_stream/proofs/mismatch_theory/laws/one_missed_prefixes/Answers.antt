@@ -1,4 +1,4 @@
-use Rattle.check_stream.proofs.mismatch_theory.StatedLemmas.{one_missed_prefixes}
+use Rattle.check_stream.proofs.mismatch_theory.MismatchStatedLemmas.{one_missed_prefixes}
 use Rattle.check_stream.proofs.mismatch_theory.laws.one_missed_prefixes.Goals as goal
 
 pub returns : goal.returns

@@ -1,5 +1,5 @@
 use Rattle.types_spec.specs.types.Table.{table_shapes}
-use Rattle.check_stream.proofs.mismatch_theory.WayLemmas.{root_mismatch, only_ways, hole_at, only_mismatch}
+use Rattle.check_stream.proofs.mismatch_theory.MismatchWayLemmas.{root_mismatch, only_ways, hole_at, only_mismatch}
 use Rattle.check_stream.proofs.mismatch_theory.laws.only_mismatches_are_least.Goals as goal
 
 pub returns-clause-root : goal.returns-clause-root

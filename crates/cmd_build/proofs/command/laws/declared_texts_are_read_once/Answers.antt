@@ -1,6 +1,6 @@
-use Rattle.run_types.proofs.GivenLemmas.{given_sound}
-use Rattle.cmd_build.specs.command.Lines.{decimals_if, plain_if, known_on}
-use Rattle.cmd_build.proofs.command.OnceLemmas.{built_once}
+use Rattle.run_types.proofs.RunTypesGivenLemmas.{given_sound}
+use Rattle.cmd_build.specs.command.InputLines.{decimals_if, plain_if, known_on}
+use Rattle.cmd_build.proofs.command.BuildOnceLemmas.{built_once}
 use Rattle.cmd_build.proofs.command.laws.declared_texts_are_read_once.Goals as goal
 
 pub returns : goal.returns

@@ -1,6 +1,6 @@
 use Rattle.std.proofs.Common.{rules, arith}
 use Rattle.text_roundtrip.specs.literal_texts.Readable.{IsConstantName}
-use Rattle.cmd_build.proofs.guess.EncodedLemmas.{more_known, all_known}
+use Rattle.cmd_build.proofs.guess.GuessEncodedLemmas.{more_known, all_known}
 use Rattle.cmd_build.proofs.guess.encoded.are_constants.Goals as goal
 
 pub loop-i-init : goal.loop-i-init

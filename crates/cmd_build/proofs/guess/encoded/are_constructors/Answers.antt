@@ -1,6 +1,6 @@
 use Rattle.std.proofs.Common.{rules, arith}
 use Rattle.text_roundtrip.specs.literal_texts.Readable.{IsConstructorName}
-use Rattle.cmd_build.proofs.guess.EncodedLemmas.{more_known, all_known}
+use Rattle.cmd_build.proofs.guess.GuessEncodedLemmas.{more_known, all_known}
 use Rattle.cmd_build.proofs.guess.encoded.are_constructors.Goals as goal
 
 pub loop-tag-init : goal.loop-tag-init

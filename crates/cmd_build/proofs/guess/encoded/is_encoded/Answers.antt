@@ -1,5 +1,5 @@
 use Rattle.std.proofs.Common.{rules, arith}
-use Rattle.cmd_build.proofs.guess.EncodedLemmas.{encoded_more, encoded_there}
+use Rattle.cmd_build.proofs.guess.GuessEncodedLemmas.{encoded_more, encoded_there}
 use Rattle.cmd_build.proofs.guess.encoded.is_encoded.Goals as goal
 
 pub loop-i-init : goal.loop-i-init

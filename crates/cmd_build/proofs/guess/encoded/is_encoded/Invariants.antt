@@ -1,6 +1,6 @@
 use Rattle.std.proofs.Common.{ℕ, ◌≡◌, ◌<◌, length}
-use Rattle.text_print.specs.show.Tables.{shape_in, names_in}
-use Rattle.cmd_build.specs.guess.Encoded.{IsEncoded}
+use Rattle.text_print.specs.show.TableShapes.{shape_in, names_in}
+use Rattle.cmd_build.specs.guess.ReadableNames.{IsEncoded}
 use Rattle.cmd_build.proofs.guess.encoded.is_encoded.Given as goal
 
 -- The names of the types before index `i` are readable.

@@ -1,6 +1,6 @@
 use Rattle.std.proofs.Common.{sym, subst}
-use Rattle.cmd_build.specs.guess.Encoded.{IsEncoded}
-use Rattle.cmd_build.proofs.guess.EncodedLemmas.{sum_names}
+use Rattle.cmd_build.specs.guess.ReadableNames.{IsEncoded}
+use Rattle.cmd_build.proofs.guess.GuessEncodedLemmas.{sum_names}
 use Rattle.cmd_build.proofs.guess.encoded.is_encoded_at.Goals as goal
 
 pub returns-then-are_constants : goal.returns-then-are_constants

@@ -1,5 +1,5 @@
 use Rattle.std.proofs.Common.{sym, ◌∙◌}
-use Rattle.cmd_build.proofs.guess.EncodedLemmas.{upper_is_head, cons_head_by, empty_head_by}
+use Rattle.cmd_build.proofs.guess.GuessEncodedLemmas.{upper_is_head, cons_head_by, empty_head_by}
 use Rattle.cmd_build.proofs.guess.encoded.is_head.Goals as goal
 
 pub returns-then-is_upper : goal.returns-then-is_upper

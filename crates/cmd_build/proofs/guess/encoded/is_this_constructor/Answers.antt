@@ -1,8 +1,8 @@
 use Rattle.std.proofs.Common.{◌≡◌, ◌∙◌, Some, sym, subst}
 use Rattle.std.specs.List.{position}
 use Rattle.text_roundtrip.specs.literal_texts.Readable.{IsHead, AreFieldNames}
-use Rattle.cmd_build.specs.guess.Encoded.{has_name}
-use Rattle.cmd_build.proofs.guess.EncodedLemmas.{constructor_found}
+use Rattle.cmd_build.specs.guess.ReadableNames.{has_name}
+use Rattle.cmd_build.proofs.guess.GuessEncodedLemmas.{constructor_found}
 use Rattle.cmd_build.proofs.guess.encoded.is_this_constructor.Goals as goal
 
 pub returns-then-are_fields : goal.returns-then-are_fields

@@ -1,4 +1,4 @@
-use Rattle.cmd_build.proofs.guess.EncodedLemmas.{encoded_are_readable}
+use Rattle.cmd_build.proofs.guess.GuessEncodedLemmas.{encoded_are_readable}
 use Rattle.cmd_build.proofs.guess.laws.encoded_are_readable.Goals as goal
 
 pub returns : goal.returns

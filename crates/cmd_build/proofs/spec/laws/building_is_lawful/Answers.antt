@@ -1,4 +1,4 @@
-use Rattle.cmd_build.proofs.spec.LawfulLemmas.{building_lawful}
+use Rattle.cmd_build.proofs.spec.BuildSpecLawfulLemmas.{building_lawful}
 use Rattle.cmd_build.proofs.spec.laws.building_is_lawful.Goals as goal
 
 pub returns : goal.returns

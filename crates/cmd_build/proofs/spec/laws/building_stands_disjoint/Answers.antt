@@ -1,4 +1,4 @@
-use Rattle.cmd_build.proofs.spec.DisjointLemmas.{texts_idle, disjoint}
+use Rattle.cmd_build.proofs.spec.BuildSpecDisjointLemmas.{texts_idle, disjoint}
 use Rattle.cmd_build.proofs.spec.laws.building_stands_disjoint.Goals as goal
 
 pub returns-clause-idle : goal.returns-clause-idle

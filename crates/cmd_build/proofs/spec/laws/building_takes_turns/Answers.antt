@@ -1,4 +1,4 @@
-use Rattle.cmd_build.proofs.spec.LawfulLemmas.{building_turns}
+use Rattle.cmd_build.proofs.spec.BuildSpecLawfulLemmas.{building_turns}
 use Rattle.cmd_build.proofs.spec.laws.building_takes_turns.Goals as goal
 
 pub returns : goal.returns

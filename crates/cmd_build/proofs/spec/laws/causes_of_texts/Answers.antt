@@ -1,4 +1,4 @@
-use Rattle.cmd_build.proofs.spec.NeverLemmas.{never_refused}
+use Rattle.cmd_build.proofs.spec.BuildSpecNeverLemmas.{never_refused}
 use Rattle.cmd_build.proofs.spec.laws.causes_of_texts.Goals as goal
 
 pub returns-clause-causes : goal.returns-clause-causes

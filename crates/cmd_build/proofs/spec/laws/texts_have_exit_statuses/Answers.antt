@@ -1,4 +1,4 @@
-use Rattle.cmd_build.proofs.spec.TableLemmas.{exact}
+use Rattle.cmd_build.proofs.spec.BuildSpecTableLemmas.{exact}
 use Rattle.cmd_build.proofs.spec.laws.texts_have_exit_statuses.Goals as goal
 
 pub returns : goal.returns

@@ -1,5 +1,5 @@
 use Rattle.marshal_spec.specs.format.Tree.{root, objects_of}
-use Rattle.cmd_certify.proofs.command.OnceLemmas.{output_once}
+use Rattle.cmd_certify.proofs.command.CertifyOnceLemmas.{output_once}
 use Rattle.cmd_certify.proofs.command.laws.declared_certificates_are_one.Goals as goal
 
 pub returns : goal.returns

@@ -1,4 +1,4 @@
-use Rattle.cmd_certify.proofs.spec.NeverLemmas.{never_rejected}
+use Rattle.cmd_certify.proofs.spec.CertifySpecNeverLemmas.{never_rejected}
 use Rattle.cmd_certify.proofs.spec.laws.causes_of_sections.Goals as goal
 
 pub returns-clause-causes : goal.returns-clause-causes

@@ -1,4 +1,4 @@
-use Rattle.cmd_certify.proofs.spec.IdleLemmas.{certifying_idle}
+use Rattle.cmd_certify.proofs.spec.CertifySpecIdleLemmas.{certifying_idle}
 use Rattle.cmd_certify.proofs.spec.laws.certifying_is_idle_elsewhere.Goals as goal
 
 pub returns : goal.returns

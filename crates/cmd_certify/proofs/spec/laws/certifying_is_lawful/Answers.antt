@@ -1,4 +1,4 @@
-use Rattle.cmd_certify.proofs.spec.LawfulLemmas.{certifying_lawful}
+use Rattle.cmd_certify.proofs.spec.CertifySpecLawfulLemmas.{certifying_lawful}
 use Rattle.cmd_certify.proofs.spec.laws.certifying_is_lawful.Goals as goal
 
 pub returns : goal.returns

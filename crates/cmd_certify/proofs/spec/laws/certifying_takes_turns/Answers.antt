@@ -1,4 +1,4 @@
-use Rattle.cmd_certify.proofs.spec.LawfulLemmas.{certifying_turns}
+use Rattle.cmd_certify.proofs.spec.CertifySpecLawfulLemmas.{certifying_turns}
 use Rattle.cmd_certify.proofs.spec.laws.certifying_takes_turns.Goals as goal
 
 pub returns : goal.returns

@@ -1,4 +1,4 @@
-use Rattle.cmd_certify.proofs.spec.TableLemmas.{exact}
+use Rattle.cmd_certify.proofs.spec.CertifySpecTableLemmas.{exact}
 use Rattle.cmd_certify.proofs.spec.laws.sections_have_exit_statuses.Goals as goal
 
 pub returns : goal.returns

@@ -1,4 +1,4 @@
-use Rattle.cmd_gen.proofs.spec.IdleLemmas.{gen_spec_idle}
+use Rattle.cmd_gen.proofs.spec.GenSpecIdleLemmas.{gen_spec_idle}
 use Rattle.cmd_gen.proofs.spec.laws.gen_spec_is_idle_elsewhere.Goals as goal
 
 pub returns : goal.returns

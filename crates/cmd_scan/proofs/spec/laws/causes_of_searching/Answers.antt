@@ -1,4 +1,4 @@
-use Rattle.cmd_scan.proofs.spec.NeverLemmas.{never_stopped}
+use Rattle.cmd_scan.proofs.spec.ScanSpecNeverLemmas.{never_stopped}
 use Rattle.cmd_scan.proofs.spec.laws.causes_of_searching.Goals as goal
 
 pub returns-clause-causes : goal.returns-clause-causes

@@ -1,4 +1,4 @@
-use Rattle.cmd_scan.proofs.spec.TableLemmas.{exact}
+use Rattle.cmd_scan.proofs.spec.ScanSpecTableLemmas.{exact}
 use Rattle.cmd_scan.proofs.spec.laws.searching_has_exit_statuses.Goals as goal
 
 pub returns : goal.returns

@@ -1,4 +1,4 @@
-use Rattle.cmd_scan.proofs.spec.LawfulLemmas.{searching_idle}
+use Rattle.cmd_scan.proofs.spec.ScanSpecLawfulLemmas.{searching_idle}
 use Rattle.cmd_scan.proofs.spec.laws.searching_is_idle_elsewhere.Goals as goal
 
 pub returns : goal.returns

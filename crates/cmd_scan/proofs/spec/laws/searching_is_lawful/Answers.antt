@@ -1,4 +1,4 @@
-use Rattle.cmd_scan.proofs.spec.LawfulLemmas.{searching_lawful}
+use Rattle.cmd_scan.proofs.spec.ScanSpecLawfulLemmas.{searching_lawful}
 use Rattle.cmd_scan.proofs.spec.laws.searching_is_lawful.Goals as goal
 
 pub returns : goal.returns

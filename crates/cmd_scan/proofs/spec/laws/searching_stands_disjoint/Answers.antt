@@ -1,4 +1,4 @@
-use Rattle.cmd_scan.proofs.spec.LawfulLemmas.{stands_disjoint}
+use Rattle.cmd_scan.proofs.spec.ScanSpecLawfulLemmas.{stands_disjoint}
 use Rattle.cmd_scan.proofs.spec.laws.searching_stands_disjoint.Goals as goal
 
 pub returns : goal.returns

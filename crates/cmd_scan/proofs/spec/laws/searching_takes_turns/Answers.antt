@@ -1,4 +1,4 @@
-use Rattle.cmd_scan.proofs.spec.LawfulLemmas.{searching_turns}
+use Rattle.cmd_scan.proofs.spec.ScanSpecLawfulLemmas.{searching_turns}
 use Rattle.cmd_scan.proofs.spec.laws.searching_takes_turns.Goals as goal
 
 pub returns : goal.returns

@@ -1,6 +1,6 @@
 use Rattle.std.proofs.Common.{refl}
 use Rattle.base_data.specs.declared.model.out_of_memory.Memory.{Memory}
-use Rattle.cmd_scan.proofs.sweep.PartsLemmas.{none_passed, last_of}
+use Rattle.cmd_scan.proofs.sweep.SweepPartsLemmas.{none_passed, last_of}
 use Rattle.cmd_scan.proofs.sweep.next_part.last_part.Goals as goal
 
 pub returns-then-claims_more : goal.returns-then-claims_more

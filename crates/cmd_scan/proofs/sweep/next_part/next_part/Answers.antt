@@ -1,6 +1,6 @@
 use Rattle.std.proofs.Common.{[], refl, take}
 use Rattle.std.proofs.lemmas.Bool.{not-true}
-use Rattle.cmd_scan.proofs.sweep.NextLemmas.{value_next, waits_next, refused_next}
+use Rattle.cmd_scan.proofs.sweep.SweepNextLemmas.{value_next, waits_next, refused_next}
 use Rattle.cmd_scan.proofs.sweep.next_part.next_part.Goals as goal
 
 pub returns-then-not-fed : goal.returns-then-not-fed

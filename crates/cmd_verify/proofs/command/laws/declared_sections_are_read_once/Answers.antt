@@ -1,5 +1,5 @@
 use Rattle.marshal_spec.specs.format.Tree.{root, objects_of}
-use Rattle.cmd_verify.proofs.command.OnceLemmas.{sections_once, shown_once}
+use Rattle.cmd_verify.proofs.command.VerifyOnceLemmas.{sections_once, shown_once}
 use Rattle.cmd_verify.proofs.command.laws.declared_sections_are_read_once.Goals as goal
 
 pub returns : goal.returns

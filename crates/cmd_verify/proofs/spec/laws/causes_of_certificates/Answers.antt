@@ -1,4 +1,4 @@
-use Rattle.cmd_verify.proofs.spec.NeverLemmas.{never_edited}
+use Rattle.cmd_verify.proofs.spec.VerifySpecNeverLemmas.{never_edited}
 use Rattle.cmd_verify.proofs.spec.laws.causes_of_certificates.Goals as goal
 
 pub returns-clause-causes : goal.returns-clause-causes

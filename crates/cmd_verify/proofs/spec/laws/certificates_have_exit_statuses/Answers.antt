@@ -1,4 +1,4 @@
-use Rattle.cmd_verify.proofs.spec.TableLemmas.{exact}
+use Rattle.cmd_verify.proofs.spec.VerifySpecTableLemmas.{exact}
 use Rattle.cmd_verify.proofs.spec.laws.certificates_have_exit_statuses.Goals as goal
 
 pub returns : goal.returns

@@ -1,4 +1,4 @@
-use Rattle.cmd_verify.proofs.spec.IdleLemmas.{certificates_idle}
+use Rattle.cmd_verify.proofs.spec.VerifySpecIdleLemmas.{certificates_idle}
 use Rattle.cmd_verify.proofs.spec.laws.verifying_is_idle_elsewhere.Goals as goal
 
 pub returns : goal.returns

@@ -1,4 +1,4 @@
-use Rattle.cmd_verify.proofs.spec.LawfulLemmas.{verifying_lawful}
+use Rattle.cmd_verify.proofs.spec.VerifySpecLawfulLemmas.{verifying_lawful}
 use Rattle.cmd_verify.proofs.spec.laws.verifying_is_lawful.Goals as goal
 
 pub returns : goal.returns

@@ -1,4 +1,4 @@
-use Rattle.cmd_verify.proofs.spec.FindLemmas.{in_turns}
+use Rattle.cmd_verify.proofs.spec.VerifySpecFindLemmas.{in_turns}
 use Rattle.cmd_verify.proofs.spec.laws.verifying_takes_turns.Goals as goal
 
 pub returns : goal.returns

@@ -2,8 +2,8 @@ use Rattle.std.proofs.Common.{◌≡◌, ℕ, ◌-◌, ◌*◌, ◌/◌, ◌%◌
 use Rattle.std.specs.List.{range_with_len}
 use Rattle.std.proofs.lemmas.List.{take_rest}
 use Rattle.std.proofs.lemmas.List.FromFn.{map-range_with_len_more}
-use Rattle.marshal_heap.specs.heap.Words.{padded, word_of_bytes, word_at}
-use Rattle.marshal_heap.proofs.heap.StringLemmas.{eight_bytes, string_words_are}
+use Rattle.marshal_heap.specs.heap.ObjectWords.{padded, word_of_bytes, word_at}
+use Rattle.marshal_heap.proofs.heap.HeapStringLemmas.{eight_bytes, string_words_are}
 use Rattle.marshal_heap.proofs.heap.strings.append_string.Goals as goal
 
 pub loop-j-preserved : goal.loop-j-preserved

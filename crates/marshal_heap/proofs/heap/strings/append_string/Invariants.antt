@@ -1,6 +1,6 @@
 use Rattle.std.proofs.Common.{◌≡◌, ◌+◌, ◌/◌, ◌≤◌, ◌++◌, length, map}
 use Rattle.std.specs.List.{range_with_len}
-use Rattle.marshal_heap.specs.heap.Words.{padded, word_at}
+use Rattle.marshal_heap.specs.heap.ObjectWords.{padded, word_at}
 use Rattle.marshal_heap.proofs.heap.strings.append_string.Given as goal
 
 abbrev pub invariant-loop-j : goal.invariant-loop-j

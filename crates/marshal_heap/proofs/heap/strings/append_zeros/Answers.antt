@@ -1,7 +1,7 @@
 use Rattle.std.proofs.Common.{◌≡◌, ℕ, ◌-◌, ◌/◌, ◌%◌, List, [], ◌∷◌, ◌++◌, length, replicate, sym, ap, ap₂, ◌∙◌, arith, append_assoc}
 use Rattle.std.proofs.lemmas.List.{take-replicate, length-replicate}
-use Rattle.marshal_heap.specs.heap.Words.{word_of_bytes}
-use Rattle.marshal_heap.proofs.heap.StringLemmas.{zero_words}
+use Rattle.marshal_heap.specs.heap.ObjectWords.{word_of_bytes}
+use Rattle.marshal_heap.proofs.heap.HeapStringLemmas.{zero_words}
 use Rattle.marshal_heap.proofs.heap.strings.append_zeros.Goals as goal
 
 pub returns : goal.returns

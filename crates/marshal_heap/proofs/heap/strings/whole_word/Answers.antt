@@ -1,6 +1,6 @@
 use Rattle.std.proofs.Common.{◌≡◌, ℕ, ◌+◌, ◌-◌, ◌*◌, take, drop, ap, ◌∙◌, arith, w64}
 use Rattle.std.specs.Int.{from_le_bytes}
-use Rattle.marshal_heap.specs.heap.Words.{word_of_bytes}
+use Rattle.marshal_heap.specs.heap.ObjectWords.{word_of_bytes}
 use Rattle.marshal_heap.proofs.heap.strings.whole_word.Goals as goal
 
 pub returns : goal.returns

@@ -2,7 +2,7 @@ use Rattle.std.proofs.Common.{◌≡◌, ◌≢◌, refl, subst}
 use Rattle.std.specs.Prelude.{MatchBool}
 use Rattle.marshal_heap.specs.heap.Heap.{object_at}
 use Rattle.marshal_heap.specs.declared.heap.kind.Kind.TheVariants as kinds
-use Rattle.marshal_heap.proofs.isomorphism.FieldLemmas.{other_kinds, blocks_meet, strings_meet, doubles_meet, arrays_meet, customs_meet, both_of_kind}
+use Rattle.marshal_heap.proofs.isomorphism.IsomorphismFieldLemmas.{other_kinds, blocks_meet, strings_meet, doubles_meet, arrays_meet, customs_meet, both_of_kind}
 use Rattle.marshal_heap.proofs.isomorphism.compare.meet_contents.Goals as goal
 
 pub returns-then-not-same_kind-clause-meets : goal.returns-then-not-same_kind-clause-meets

@@ -5,7 +5,7 @@ use Rattle.marshal_heap.specs.isomorphism.Meeting.{AreMet, CannotMeet, Meets}
 use Rattle.base_data.specs.model.Graph.{IsValue}
 use Rattle.base_data.specs.declared.model.value.Val.TheVariants as vals
 use Rattle.marshal_heap.specs.heap.Heap.{object_at, fields_of}
-use Rattle.marshal_heap.proofs.isomorphism.FieldLemmas.{fields_none, fields_more, fields_cannot, fields_all}
+use Rattle.marshal_heap.proofs.isomorphism.IsomorphismFieldLemmas.{fields_none, fields_more, fields_cannot, fields_all}
 use Rattle.marshal_heap.proofs.isomorphism.compare.meet_fields.Goals as goal
 
 pub loop-i-init : goal.loop-i-init

@@ -1,7 +1,7 @@
 use Rattle.std.proofs.Common.{◌≡◌, take}
 use Rattle.marshal_heap.specs.heap.Heap.{object_at, fields_of}
 use Rattle.marshal_heap.specs.isomorphism.Meeting.{AreMet}
-use Rattle.marshal_heap.proofs.isomorphism.FieldLemmas.{AgreeFields}
+use Rattle.marshal_heap.proofs.isomorphism.IsomorphismFieldLemmas.{AgreeFields}
 use Rattle.marshal_heap.proofs.isomorphism.compare.meet_fields.Given as goal
 
 abbrev pub invariant-loop-i : goal.invariant-loop-i

@@ -4,7 +4,7 @@ use Rattle.marshal_spec.specs.format.Raw.{fixed_bytes, variable_bytes}
 use Rattle.marshal_spec.specs.format.Words.{words32, words64}
 use Rattle.marshal_read.specs.Totals.{AreTotals, AreFew, context_of, moved}
 use Rattle.marshal_read.specs.Progress.{answered}
-use Rattle.marshal_read.proofs.SizeLemmas.{few_words32, few_words64}
+use Rattle.marshal_read.proofs.ReaderSizeLemmas.{few_words32, few_words64}
 use Rattle.marshal_read.proofs.DecodeLemmas.{closed_as}
 use Rattle.marshal_read.proofs.read_totals.ReadTotals.close.Goals as goal
 

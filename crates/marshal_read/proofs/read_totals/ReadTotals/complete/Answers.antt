@@ -5,7 +5,7 @@ use Rattle.std.specs.Option.{ForSome}
 use Rattle.marshal_spec.specs.format.Words.{of_object, fields, words32, words64}
 use Rattle.marshal_spec.specs.format.Step.{Context}
 use Rattle.marshal_codec.specs.headers.Counting.{IsCountable}
-use Rattle.marshal_codec.specs.token.Complete.{reference_refusal, closing}
+use Rattle.marshal_codec.specs.token.RemainingSteps.{reference_refusal, closing}
 use Rattle.marshal_read.specs.Totals.{AreTotals, AreFew, context_of, moved}
 use Rattle.marshal_read.specs.Progress.{answered, of_refusal, progress}
 use Rattle.marshal_read.proofs.TotalsLemmas.{once_passed, once_failed, not_passed}

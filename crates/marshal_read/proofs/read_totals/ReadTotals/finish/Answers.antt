@@ -2,7 +2,7 @@ use Rattle.std.proofs.Common.{rules, arith, ◌≡◌, [], None, false, ltb, eqb
 use Rattle.std.proofs.lemmas.Grind.{common_steps}
 use Rattle.marshal_spec.specs.format.Words.{Sums, one_more}
 use Rattle.marshal_spec.specs.format.Step.{Context, overlong, words32_refusal, words64_refusal, end_steps, or_else, position}
-use Rattle.marshal_codec.specs.token.Complete.{closing}
+use Rattle.marshal_codec.specs.token.RemainingSteps.{closing}
 use Rattle.marshal_read.specs.Totals.{context_of}
 use Rattle.marshal_read.specs.Progress.{answered, of_refusal, progress}
 use Rattle.marshal_read.proofs.TotalsLemmas.{go_on, stops_at, not_passed}

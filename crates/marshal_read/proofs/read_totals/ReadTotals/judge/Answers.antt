@@ -1,7 +1,7 @@
 use Rattle.std.proofs.Common.{arith, ◌<◌, ◌-◌, length, subst}
 use Rattle.marshal_spec.specs.format.Raw.{raw_length}
 use Rattle.marshal_codec.specs.token.Summary.{IsSummaryBy, summary_measure}
-use Rattle.marshal_codec.specs.token.Fault.{IsFaultBy}
+use Rattle.marshal_codec.specs.token.TokenFault.{IsFaultBy}
 use Rattle.marshal_read.specs.Totals.{IsSized, context_of}
 use Rattle.marshal_read.proofs.DecodeLemmas.{decoded, fair_of, complete_next, fault_next}
 use Rattle.marshal_read.proofs.read_totals.ReadTotals.judge.Goals as goal

@@ -3,10 +3,10 @@ use Rattle.std.specs.Prelude.{IsErr}
 use Rattle.marshal_spec.specs.format.Code.{kind_of}
 use Rattle.marshal_spec.specs.format.Step.{token_steps}
 use Rattle.marshal_spec.specs.format.Raw.{variable_bytes, raw_length}
-use Rattle.marshal_codec.proofs.token.PartLemmas.{more_sound}
+use Rattle.marshal_codec.proofs.token.TokenPartLemmas.{more_sound}
 use Rattle.marshal_read.specs.Totals.{AreTotals, context_of, after_kind}
 use Rattle.marshal_read.specs.Progress.{answered, progress}
-use Rattle.marshal_read.proofs.StepLemmas.{bytes_steps_are, bytes_fault, bytes_length, bytes_after, judged_stop, judged_pass}
+use Rattle.marshal_read.proofs.ReaderStepLemmas.{bytes_steps_are, bytes_fault, bytes_length, bytes_after, judged_stop, judged_pass}
 use Rattle.marshal_read.proofs.read_totals.ReadTotals.part.Goals as goal
 use Rattle.marshal_read.proofs.read_totals.ReadTotals.part.Goals.{After-steps, In_ok-next-in-Ok}
 

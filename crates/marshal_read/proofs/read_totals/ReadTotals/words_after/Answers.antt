@@ -1,5 +1,5 @@
 use Rattle.std.proofs.Common.{ℕ, arith, ap}
-use Rattle.marshal_read.proofs.SizeLemmas.{words32-within, words64-within, words-small}
+use Rattle.marshal_read.proofs.ReaderSizeLemmas.{words32-within, words64-within, words-small}
 use Rattle.marshal_read.proofs.read_totals.ReadTotals.words_after.Goals as goal
 
 pub overflow_add-result : goal.overflow_add-result

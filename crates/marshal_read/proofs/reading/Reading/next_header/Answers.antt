@@ -1,5 +1,5 @@
 use Rattle.std.proofs.Common.{rules, List, ℕ, subst, refl, Ok, Err}
-use Rattle.marshal_read.specs.Head.{JudgedHeader}
+use Rattle.marshal_read.specs.JudgedHeader.{JudgedHeader}
 use Rattle.marshal_read.proofs.ChunksLemmas.{header_stops, header_is_read}
 use Rattle.marshal_read.proofs.reading.Reading.next_header.Goals as goal
 

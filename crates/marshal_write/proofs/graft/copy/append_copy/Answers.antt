@@ -2,8 +2,8 @@ use Rattle.std.proofs.Common.{◌<◌, ◌∙◌, ◌++◌, length, take, sym, a
 use Rattle.std.specs.Prelude.{All}
 use Rattle.marshal_write.specs.write.Marks.{marks_of}
 use Rattle.marshal_write.specs.graft.Renamed.{blanks, renamed, IsMetObject}
-use Rattle.marshal_write.proofs.graft.OrderLemmas.{order_inside}
-use Rattle.marshal_write.proofs.graft.WholeLemmas.{whole_met, whole_top, whole_copy, whole_valid}
+use Rattle.marshal_write.proofs.graft.GraftOrderLemmas.{order_inside}
+use Rattle.marshal_write.proofs.graft.GraftWholeLemmas.{whole_met, whole_top, whole_copy, whole_valid}
 use Rattle.marshal_write.proofs.graft.copy.append_copy.Goals as goal
 
 pub append_blanks-requires : goal.append_blanks-requires

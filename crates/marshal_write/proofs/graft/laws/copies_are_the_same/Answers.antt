@@ -1,4 +1,4 @@
-use Rattle.marshal_write.proofs.graft.CopyLemmas.{copies_are_the_same_lem, one_copy_follows, copies_are_closed}
+use Rattle.marshal_write.proofs.graft.GraftCopyLemmas.{copies_are_the_same_lem, one_copy_follows, copies_are_closed}
 use Rattle.marshal_write.proofs.graft.laws.copies_are_the_same.Goals as goal
 
 pub returns-clause-same : goal.returns-clause-same

@@ -1,6 +1,6 @@
 use Rattle.std.proofs.Common.{ℕ, List, ◌+◌, ◌-◌, ◌≡◌, ◌∙◌, length, length-set, sym, ap, subst, arith}
 use Rattle.marshal_write.specs.write.Marks.{marks_of}
-use Rattle.marshal_write.proofs.graft.OrderLemmas.{AreOrdered, many_marked, unmarked_next, marked_next, all_ordered}
+use Rattle.marshal_write.proofs.graft.GraftOrderLemmas.{AreOrdered, many_marked, unmarked_next, marked_next, all_ordered}
 use Rattle.marshal_write.proofs.graft.write_order.order_of.Goals as goal
 use Rattle.marshal_write.proofs.graft.write_order.order_of.Goals.{then-mark-ne0, else-mark-ne0}
 

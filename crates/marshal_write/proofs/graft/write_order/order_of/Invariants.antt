@@ -1,8 +1,8 @@
 use Rattle.std.proofs.Common.{ℕ, ◌≡◌, List, length}
 use Rattle.base_data.specs.declared.model.value.Obj.{Obj}
 use Rattle.marshal_write.specs.write.Marks.{marks_of}
-use Rattle.marshal_write.specs.write.Walking.{AreMarked}
-use Rattle.marshal_write.proofs.graft.OrderLemmas.{AreOrdered}
+use Rattle.marshal_write.specs.write.WriteWalk.{AreMarked}
+use Rattle.marshal_write.proofs.graft.GraftOrderLemmas.{AreOrdered}
 use Rattle.marshal_write.proofs.graft.write_order.order_of.Given as goal
 
 abbrev pub invariant-loop-k : goal.invariant-loop-k

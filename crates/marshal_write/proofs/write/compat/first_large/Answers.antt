@@ -2,9 +2,9 @@ use Rattle.std.proofs.Common.{◌∙◌, sym, subst}
 use Rattle.marshal_spec.specs.format.Compat.{is_large}
 use Rattle.marshal_spec.specs.format.Isomorphism.{IsTreeOf}
 use Rattle.marshal_spec.specs.format.Tree.{tokens}
-use Rattle.marshal_write.specs.write.Step.{token_in}
+use Rattle.marshal_write.specs.write.WriteStep.{token_in}
 use Rattle.marshal_write.proofs.write.CompatLemmas.{find_more, found}
-use Rattle.marshal_write.proofs.write.SumLemmas.{given_falls}
+use Rattle.marshal_write.proofs.write.WriterSumLemmas.{given_falls}
 use Rattle.marshal_write.proofs.write.compat.first_large.Goals as goal
 
 pub returns-in-Some-step_compat-clause-large : goal.returns-in-Some-step_compat-clause-large

@@ -3,7 +3,7 @@ use Rattle.std.specs.Prelude.{find}
 use Rattle.marshal_spec.specs.format.Compat.{is_large}
 use Rattle.marshal_spec.specs.format.Isomorphism.{IsTreeOf}
 use Rattle.marshal_spec.specs.format.Tree.{Tree, tokens}
-use Rattle.marshal_write.specs.write.Walking.{IsWalk}
+use Rattle.marshal_write.specs.write.WriteWalk.{IsWalk}
 use Rattle.marshal_write.proofs.write.compat.first_large.Given as goal
 
 abbrev pub invariant-tokens : goal.invariant-tokens

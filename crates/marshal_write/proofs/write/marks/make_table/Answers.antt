@@ -1,6 +1,6 @@
 use Rattle.std.proofs.Common.{[], ◌∷◌, ◌++◌, ◌∙◌, ap, sym, arith}
 use Rattle.marshal_write.specs.write.Marks.{in_order}
-use Rattle.marshal_write.proofs.write.MarkLemmas.{in_order-push}
+use Rattle.marshal_write.proofs.write.WriterMarkLemmas.{in_order-push}
 use Rattle.marshal_write.proofs.write.marks.make_table.Goals as goal
 
 pub loop-k-preserved : goal.loop-k-preserved

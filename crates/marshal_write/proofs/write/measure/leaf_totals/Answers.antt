@@ -1,7 +1,7 @@
 use Rattle.std.proofs.Common.{◌∙◌, arith}
 use Rattle.std.proofs.lemmas.Grind.{common_steps}
 use Rattle.marshal_heap.specs.heap.Heap.{object_at, doubles_of}
-use Rattle.marshal_write.proofs.write.SumLemmas.{doubles_totals}
+use Rattle.marshal_write.proofs.write.WriterSumLemmas.{doubles_totals}
 use Rattle.marshal_write.proofs.write.measure.leaf_totals.Goals as goal
 
 pub returns-in-Doubles : goal.returns-in-Doubles

@@ -1,9 +1,9 @@
 use Rattle.std.proofs.Common.{◌∙◌, ap, subst, sym}
 use Rattle.marshal_spec.specs.format.Isomorphism.{IsTreeOf}
 use Rattle.marshal_spec.specs.format.Tree.{tokens}
-use Rattle.marshal_write.specs.write.Step.{IsNext}
-use Rattle.marshal_write.specs.write.Sums.{plus, FitTotals, head_of_totals, totals_of}
-use Rattle.marshal_write.proofs.write.SumLemmas.{totals_next, totals_fit, given_falls, all_taken}
+use Rattle.marshal_write.specs.write.WriteStep.{IsNext}
+use Rattle.marshal_write.specs.write.TokenSums.{plus, FitTotals, head_of_totals, totals_of}
+use Rattle.marshal_write.proofs.write.WriterSumLemmas.{totals_next, totals_fit, given_falls, all_taken}
 use Rattle.marshal_write.proofs.write.measure.measure.Goals as goal
 
 pub add-requires : goal.add-requires

@@ -1,6 +1,6 @@
 use Rattle.std.proofs.Common.{◌≡◌, ◌-◌, ◌^◌}
-use Rattle.marshal_write.proofs.write.SumLemmas.{AreTotals}
-use Rattle.marshal_write.specs.write.Walking.{IsWalk}
+use Rattle.marshal_write.proofs.write.WriterSumLemmas.{AreTotals}
+use Rattle.marshal_write.specs.write.WriteWalk.{IsWalk}
 use Rattle.marshal_write.proofs.write.measure.measure.Given as goal
 
 abbrev pub invariant-tokens : goal.invariant-tokens

@@ -2,10 +2,10 @@ use Rattle.std.proofs.Common.{◌∙◌, ap, sym, subst}
 use Rattle.marshal_spec.specs.format.Canonical.{data_encoding}
 use Rattle.marshal_spec.specs.format.Isomorphism.{IsTreeOf}
 use Rattle.marshal_spec.specs.format.Tree.{tokens}
-use Rattle.marshal_write.specs.write.Step.{token_in}
-use Rattle.marshal_write.specs.write.Text.{AddsAll}
-use Rattle.marshal_write.proofs.write.SumLemmas.{given_falls, all_taken}
-use Rattle.marshal_write.proofs.write.TextLemmas.{adds_if_failed, token_more, token_failed}
+use Rattle.marshal_write.specs.write.WriteStep.{token_in}
+use Rattle.marshal_write.specs.write.WriteBuffer.{AddsAll}
+use Rattle.marshal_write.proofs.write.WriterSumLemmas.{given_falls, all_taken}
+use Rattle.marshal_write.proofs.write.WriterTextLemmas.{adds_if_failed, token_more, token_failed}
 use Rattle.marshal_write.proofs.write.writer.add_tokens.Goals as goal
 
 pub tokens-smaller : goal.tokens-smaller

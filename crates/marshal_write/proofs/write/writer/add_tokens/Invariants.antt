@@ -2,9 +2,9 @@ use Rattle.std.proofs.Common.{◌≡◌, true, ◌-◌, ◌≤◌, ◌^◌, take
 use Rattle.marshal_spec.specs.format.Canonical.{data_encoding}
 use Rattle.marshal_spec.specs.format.Isomorphism.{IsTreeOf}
 use Rattle.marshal_spec.specs.format.Tree.{Tree, tokens}
-use Rattle.marshal_write.specs.write.Text.{AddsAll}
-use Rattle.marshal_write.specs.write.Walking.{IsWalk}
-use Rattle.marshal_write.specs.declared.write.text.TheConstants.{LIMIT}
+use Rattle.marshal_write.specs.write.WriteBuffer.{AddsAll}
+use Rattle.marshal_write.specs.write.WriteWalk.{IsWalk}
+use Rattle.marshal_write.specs.declared.write.write_buffer.TheConstants.{LIMIT}
 use Rattle.marshal_write.proofs.write.writer.add_tokens.Given as goal
 
 abbrev pub invariant-tokens : goal.invariant-tokens

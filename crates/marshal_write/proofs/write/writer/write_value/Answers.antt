@@ -4,9 +4,9 @@ use Rattle.marshal_spec.specs.format.Canonical.{header_encoding, data_encoding}
 use Rattle.marshal_spec.specs.format.Tree.{tokens}
 use Rattle.marshal_codec.specs.headers.Encoding.{FitsSmall}
 use Rattle.marshal_spec.proofs.canonical.Walk.{has_one_tree}
-use Rattle.marshal_write.specs.write.Text.{AddsPart}
-use Rattle.marshal_write.proofs.write.SumLemmas.{canonical_fits}
-use Rattle.marshal_write.proofs.write.TextLemmas.{adds_part_of, adds_then_part, part_written, canon_is, whole_written}
+use Rattle.marshal_write.specs.write.WriteBuffer.{AddsPart}
+use Rattle.marshal_write.proofs.write.WriterSumLemmas.{canonical_fits}
+use Rattle.marshal_write.proofs.write.WriterTextLemmas.{adds_part_of, adds_then_part, part_written, canon_is, whole_written}
 use Rattle.marshal_write.proofs.write.writer.write_value.Goals as goal
 
 pub encode-len-requires : goal.encode-len-requires

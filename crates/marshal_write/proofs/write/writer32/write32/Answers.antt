@@ -2,7 +2,7 @@ use Rattle.std.proofs.Common.{◌∙◌, sym, subst}
 use Rattle.std.proofs.lemmas.Result.{err_from_is_err_and}
 use Rattle.marshal_spec.specs.format.Isomorphism.{IsTreeOf}
 use Rattle.marshal_write.proofs.write.CompatLemmas.{large_token, large_head, nothing_large}
-use Rattle.marshal_write.proofs.write.TreeLemmas.{for_tree}
+use Rattle.marshal_write.proofs.write.WriterTreeLemmas.{for_tree}
 use Rattle.marshal_write.proofs.write.writer32.write32.Goals as goal
 
 pub returns-in_err-walk-clause-writes : goal.returns-in_err-walk-clause-writes

@@ -1,5 +1,5 @@
 use Rattle.std.proofs.Common.{subst, arith}
-use Rattle.base_io.specs.State.{change}
+use Rattle.base_io.specs.StreamState.{change}
 use Rattle.run_spec.specs.runs.Account.{HaveNoExit}
 use Rattle.opt_skip_only.proofs.only.OnlyWorkLemmas.{fed_within, aborts_within, finishes}
 use Rattle.opt_skip_only.proofs.only.only_command.feed_last.Goals as goal

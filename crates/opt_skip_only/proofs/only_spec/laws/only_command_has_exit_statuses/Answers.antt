@@ -1,4 +1,4 @@
-use Rattle.opt_skip_only.proofs.only_spec.TableLemmas.{exact}
+use Rattle.opt_skip_only.proofs.only_spec.OnlyTableLemmas.{exact}
 use Rattle.opt_skip_only.proofs.only_spec.laws.only_command_has_exit_statuses.Goals as goal
 
 pub returns : goal.returns

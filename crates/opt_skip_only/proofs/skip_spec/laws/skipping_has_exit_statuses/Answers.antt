@@ -1,4 +1,4 @@
-use Rattle.opt_skip_only.proofs.skip_spec.TableLemmas.{exact}
+use Rattle.opt_skip_only.proofs.skip_spec.SkipTableLemmas.{exact}
 use Rattle.opt_skip_only.proofs.skip_spec.laws.skipping_has_exit_statuses.Goals as goal
 
 pub returns : goal.returns

@@ -1,4 +1,4 @@
-use Rattle.run_loop.proofs.examples.LawfulLemmas.{reporting_lawful, lines_lawful, bytes_lawful}
+use Rattle.run_loop.proofs.examples.ExampleLawfulLemmas.{reporting_lawful, lines_lawful, bytes_lawful}
 use Rattle.run_loop.proofs.examples.laws.small_commands_report_environment.Goals as goal
 
 pub returns-clause-reporting : goal.returns-clause-reporting

@@ -1,8 +1,8 @@
 use Rattle.std.proofs.Common.{◌<◌, ◌^◌, ◌++◌, ◌∙◌, Ok, Err, refl, length, sym, subst, arith}
-use Rattle.base_io.specs.State.{change}
+use Rattle.base_io.specs.StreamState.{change}
 use Rattle.run_spec.proofs.runs.LengthLemmas.{no_bytes}
 use Rattle.run_loop.specs.work.Works.{FeedsSome}
-use Rattle.run_loop.proofs.work.ChunkLemmas.{chunk_begins, chunk_room, chunk_smaller, fed_more, fed_aborts, fed_all}
+use Rattle.run_loop.proofs.work.WorkChunkLemmas.{chunk_begins, chunk_room, chunk_smaller, fed_more, fed_aborts, fed_all}
 use Rattle.run_loop.proofs.work.chunk.feed_chunk.Goals as goal
 
 pub loop-rest-init : goal.loop-rest-init

@@ -1,6 +1,6 @@
 use Rattle.std.proofs.Common.{◌≡◌, length}
-use Rattle.base_io.specs.State.{change}
-use Rattle.run_loop.proofs.work.ChunkLemmas.{FedSoFar}
+use Rattle.base_io.specs.StreamState.{change}
+use Rattle.run_loop.proofs.work.WorkChunkLemmas.{FedSoFar}
 use Rattle.run_loop.proofs.work.chunk.feed_chunk.Given as goal
 
 abbrev pub invariant-loop-rest : goal.invariant-loop-rest

@@ -1,4 +1,4 @@
-use Rattle.run_spec.proofs.command_sum.PartLemmas.{disjoint_together}
+use Rattle.run_spec.proofs.command_sum.CommandSumPartLemmas.{disjoint_together}
 use Rattle.run_spec.proofs.command_sum.laws.command_sums_are_disjoint.Goals as goal
 
 pub returns : goal.returns

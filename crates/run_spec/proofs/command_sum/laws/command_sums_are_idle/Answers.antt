@@ -1,4 +1,4 @@
-use Rattle.run_spec.proofs.command_sum.PartLemmas.{idle_together}
+use Rattle.run_spec.proofs.command_sum.CommandSumPartLemmas.{idle_together}
 use Rattle.run_spec.proofs.command_sum.laws.command_sums_are_idle.Goals as goal
 
 pub returns : goal.returns

@@ -1,4 +1,4 @@
-use Rattle.run_spec.proofs.command_sum.PartLemmas.{accounts_of_first, run_spec_as_first}
+use Rattle.run_spec.proofs.command_sum.CommandSumPartLemmas.{accounts_of_first, run_spec_as_first}
 use Rattle.run_spec.proofs.command_sum.laws.command_sums_specify_as_the_first.Goals as goal
 
 pub returns-clause-account : goal.returns-clause-account

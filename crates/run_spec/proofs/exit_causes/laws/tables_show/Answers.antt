@@ -1,4 +1,4 @@
-use Rattle.run_spec.proofs.exit_causes.TableLemmas.{have_shown}
+use Rattle.run_spec.proofs.exit_causes.ExitCauseTableLemmas.{have_shown}
 use Rattle.run_spec.proofs.exit_causes.laws.tables_show.Goals as goal
 
 pub returns : goal.returns

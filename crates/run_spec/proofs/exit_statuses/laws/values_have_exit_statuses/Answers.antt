@@ -1,6 +1,6 @@
-use Rattle.run_spec.proofs.exit_statuses.EndLemmas.{have_ends}
+use Rattle.run_spec.proofs.exit_statuses.ExitStatusEndLemmas.{have_ends}
 use Rattle.run_spec.proofs.exit_statuses.StageLemmas.{bad_path_found, have_bars}
-use Rattle.run_spec.proofs.exit_statuses.ExitLemmas.{have_exits}
+use Rattle.run_spec.proofs.exit_statuses.StatusExitLemmas.{have_exits}
 use Rattle.run_spec.proofs.exit_statuses.laws.values_have_exit_statuses.Goals as goal
 
 pub returns : goal.returns

@@ -1,5 +1,5 @@
 use Rattle.run_spec.proofs.runs.HoldLemmas.{one_exit, exits_stay, exits_last}
-use Rattle.run_spec.proofs.runs.OnceLemmas.{replies_once}
+use Rattle.run_spec.proofs.runs.RunOnceLemmas.{replies_once}
 use Rattle.run_spec.proofs.runs.laws.lawful_commands.Goals as goal
 
 pub returns : goal.returns

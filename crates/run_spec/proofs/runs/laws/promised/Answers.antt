@@ -1,4 +1,4 @@
-use Rattle.run_spec.proofs.runs.AccountLemmas.{promised}
+use Rattle.run_spec.proofs.runs.RunAccountLemmas.{promised}
 use Rattle.run_spec.proofs.runs.laws.promised.Goals as goal
 
 pub returns : goal.returns

@@ -1,11 +1,11 @@
 use Rattle.run_spec.proofs.runs.FailsLemmas.{if_input_fails}
-use Rattle.run_spec.proofs.runs.FaultLemmas.{only_read_fault, only_write_fault, only_too_long}
-use Rattle.run_spec.proofs.runs.FileLemmas.{as_known}
-use Rattle.run_spec.proofs.runs.FirstLemmas.{if_memory, if_write_fault}
+use Rattle.run_spec.proofs.runs.RunFaultLemmas.{only_read_fault, only_write_fault, only_too_long}
+use Rattle.run_spec.proofs.runs.RunFileLemmas.{as_known}
+use Rattle.run_spec.proofs.runs.RunFirstLemmas.{if_memory, if_write_fault}
 use Rattle.run_spec.proofs.runs.IfLemmas.{if_exit, if_end, if_alone, if_input_too_long}
 use Rattle.run_spec.proofs.runs.MeantLemmas.{only_meant}
 use Rattle.run_spec.proofs.runs.OutcomeLemmas.{decided, exact, complete}
-use Rattle.run_spec.proofs.runs.SettledLemmas.{if_usage, if_arguments}
+use Rattle.run_spec.proofs.runs.RunSettledLemmas.{if_usage, if_arguments}
 use Rattle.run_spec.proofs.runs.laws.run_spec_of_commands.Goals as goal
 
 pub returns-clause-exit : goal.returns-clause-exit

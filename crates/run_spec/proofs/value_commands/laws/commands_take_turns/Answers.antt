@@ -1,4 +1,4 @@
-use Rattle.run_spec.proofs.value_commands.TurnLemmas.{in_turns}
+use Rattle.run_spec.proofs.value_commands.ValueCommandTurnLemmas.{in_turns}
 use Rattle.run_spec.proofs.value_commands.laws.commands_take_turns.Goals as goal
 
 pub returns : goal.returns

@@ -1,11 +1,11 @@
 use Rattle.cli_spec.specs.declared.exit.Exit.TheVariants.{Memory}
-use Rattle.base_io.specs.State.{change}
+use Rattle.base_io.specs.StreamState.{change}
 use Rattle.run_spec.specs.value_commands.Tasks.{commands}
 use Rattle.run_types.specs.Language.{declared_types}
-use Rattle.cli_errors.specs.declared.exit.Error.TheVariants.{Exit}
-use Rattle.run_loop.proofs.work.ChunkLemmas.{feeds_error}
-use Rattle.session.specs.Progress.{HasTaken}
-use Rattle.session.specs.Values.{HasRead, task_of}
+use Rattle.cli_errors.specs.declared.exit_line.Error.TheVariants.{Exit}
+use Rattle.run_loop.proofs.work.WorkChunkLemmas.{feeds_error}
+use Rattle.session.specs.CheckProgress.{HasTaken}
+use Rattle.session.specs.InputValues.{HasRead, task_of}
 use Rattle.session.proofs.ProgressLemmas.{feeds_weaker, read_taken, checked_any, memory_aborts_taken}
 use Rattle.session.proofs.session_state.SessionState.read_on.Goals as goal
 

@@ -1,4 +1,4 @@
-use Rattle.session.proofs.ReadLemmas.{output_count}
+use Rattle.session.proofs.SessionReadLemmas.{output_count}
 use Rattle.session.proofs.session_state.SessionStateCounts.count.Goals as goal
 
 pub returns : goal.returns

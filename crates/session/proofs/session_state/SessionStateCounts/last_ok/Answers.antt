@@ -1,6 +1,6 @@
 use Rattle.std.proofs.Common.{◌≡◌, ◌∙◌, ◌∷◌, ◌++◌, [], true}
-use Rattle.session.specs.Values.{last_ok}
-use Rattle.session.proofs.ReadLemmas.{last_ok-snoc}
+use Rattle.session.specs.InputValues.{last_ok}
+use Rattle.session.proofs.SessionReadLemmas.{last_ok-snoc}
 use Rattle.session.proofs.session_state.SessionStateCounts.last_ok.Goals as goal
 
 pub returns : goal.returns

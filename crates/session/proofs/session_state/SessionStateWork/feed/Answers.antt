@@ -1,14 +1,14 @@
 use Rattle.std.proofs.Common.{length, ap, subst, sym, ◌+◌, ◌++◌}
 use Rattle.cli_spec.specs.declared.exit.Exit.TheVariants.{Memory}
-use Rattle.base_io.specs.State.{change}
+use Rattle.base_io.specs.StreamState.{change}
 use Rattle.run_spec.specs.value_commands.Tasks.{commands}
 use Rattle.run_types.specs.Language.{declared_types}
-use Rattle.cli_errors.specs.declared.exit.Error.TheVariants.{Exit}
+use Rattle.cli_errors.specs.declared.exit_line.Error.TheVariants.{Exit}
 use Rattle.types_table.specs.type_table.Made.{table_of}
-use Rattle.run_loop.proofs.work.ChunkLemmas.{feeds_error}
+use Rattle.run_loop.proofs.work.WorkChunkLemmas.{feeds_error}
 use Rattle.session.specs.FastCheck.{IsVerdictOn, no_in}
-use Rattle.session.specs.Progress.{HasTaken}
-use Rattle.session.specs.Values.{task_of}
+use Rattle.session.specs.CheckProgress.{HasTaken}
+use Rattle.session.specs.InputValues.{task_of}
 use Rattle.session.proofs.ProgressLemmas.{ready_to_inspect, is_between, short_before, known_feeds, more_feeds, inconclusive_taken, read_feeds, memory_aborts_taken}
 use Rattle.session.proofs.session_state.SessionStateWork.feed.Goals as goal
 

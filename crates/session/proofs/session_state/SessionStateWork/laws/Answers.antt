@@ -1,4 +1,4 @@
-use Rattle.session.proofs.ReadLemmas.{values_stay}
+use Rattle.session.proofs.SessionReadLemmas.{values_stay}
 use Rattle.session.proofs.ProgressLemmas.{holds_taken}
 use Rattle.session.proofs.session_state.SessionStateWork.laws.Goals as goal
 

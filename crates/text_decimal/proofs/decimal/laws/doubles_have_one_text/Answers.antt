@@ -1,4 +1,4 @@
-use Rattle.text_decimal.proofs.decimal.TextLemmas.{double_text_is, is_double_text}
+use Rattle.text_decimal.proofs.decimal.DecimalTextLemmas.{double_text_is, is_double_text}
 use Rattle.text_decimal.proofs.decimal.laws.doubles_have_one_text.Goals as goal
 
 pub returns : goal.returns

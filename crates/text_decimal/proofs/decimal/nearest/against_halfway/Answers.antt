@@ -1,7 +1,7 @@
 use Rattle.std.proofs.Common.{◌≡◌, ◌+◌, ◌*◌, ◌-◌, ◌^◌, ap, ◌∙◌, arith}
 use Rattle.std.specs.Ordering.{nat_cmp}
 use Rattle.text_decimal.specs.decimal.Doubles.{double_units, decimal_units}
-use Rattle.text_decimal.proofs.decimal.RoomLemmas.{room, room_of_ten, room_of_two, room_of_both, double_is}
+use Rattle.text_decimal.proofs.decimal.DecimalRoomLemmas.{room, room_of_ten, room_of_two, room_of_both, double_is}
 use Rattle.text_decimal.proofs.decimal.nearest.against_halfway.Goals as goal
 
 pub times_two_to-requires : goal.times_two_to-requires

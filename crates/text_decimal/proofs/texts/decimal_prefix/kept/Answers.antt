@@ -1,7 +1,7 @@
 use Rattle.std.proofs.Common.{◌∙◌, Ok, ap}
 use Rattle.types_lex.specs.declared.found_lexeme.LexStep.{LexStep}
 use Rattle.types_lex.specs.declared.found_lexeme.LexStep.TheVariants as steps
-use Rattle.text_decimal.proofs.texts.PrefixLemmas.{step_within}
+use Rattle.text_decimal.proofs.texts.DecimalTextPrefixLemmas.{step_within}
 use Rattle.text_decimal.proofs.texts.decimal_prefix.kept.Goals as goal
 
 pub returns-in-Ok-Gap-clause-within : goal.returns-in-Ok-Gap-clause-within

@@ -1,5 +1,5 @@
 use Rattle.std.proofs.Common.{sym}
-use Rattle.text_decimal.proofs.decimal.ScanLemmas.{decimal_long}
+use Rattle.text_decimal.proofs.decimal.DecimalScanLemmas.{decimal_long}
 use Rattle.text_decimal.proofs.texts.decimal_prefix.read_prefix.Goals as goal
 
 pub returns-in-Some-clause-within : goal.returns-in-Some-clause-within

@@ -1,5 +1,5 @@
 use Rattle.std.proofs.Common.{◌≡◌, ◌≤◌, ◌^◌, drop}
-use Rattle.text_decimal.specs.texts.Plain.{given_from, given_position, AreWithin}
+use Rattle.text_decimal.specs.texts.PlainTexts.{given_from, given_position, AreWithin}
 use Rattle.text_decimal.proofs.texts.decimals.given_position.Given as goal
 
 abbrev pub invariant-loop-decimal : goal.invariant-loop-decimal

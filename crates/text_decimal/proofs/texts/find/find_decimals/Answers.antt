@@ -1,7 +1,7 @@
 use Rattle.std.proofs.Common.{◌∙◌, ℕ, ◌+◌, ◌<◌, ◌≤◌, ◌^◌, true, List, length, drop, sym, subst, arith}
 use Rattle.std.proofs.lemmas.List.{take_rest, length-drop}
-use Rattle.text_decimal.specs.texts.Plain.{IsPrefixWithin}
-use Rattle.text_decimal.proofs.texts.FoundLemmas.{IsFound, within_more, found_none, found_double, found_kept, found_all, found_end, found_within}
+use Rattle.text_decimal.specs.texts.PlainTexts.{IsPrefixWithin}
+use Rattle.text_decimal.proofs.texts.DecimalTextFoundLemmas.{IsFound, within_more, found_none, found_double, found_kept, found_all, found_end, found_within}
 use Rattle.text_decimal.proofs.texts.find.find_decimals.Goals as goal
 
 inside : (text : List ℕ) (at len : ℕ) → at < length text → len ≤ length (drop at text) → at + len ≤ length text

@@ -1,5 +1,5 @@
 use Rattle.std.proofs.Common.{◌-◌, length}
-use Rattle.text_decimal.proofs.texts.FoundLemmas.{IsFound}
+use Rattle.text_decimal.proofs.texts.DecimalTextFoundLemmas.{IsFound}
 use Rattle.text_decimal.proofs.texts.find.find_decimals.Given as goal
 
 abbrev pub invariant-loop-at : goal.invariant-loop-at

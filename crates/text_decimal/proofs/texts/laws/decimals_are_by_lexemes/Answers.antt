@@ -1,4 +1,4 @@
-use Rattle.text_decimal.proofs.texts.LexedLemmas.{decimal_text_lexed, decimal_text_faults}
+use Rattle.text_decimal.proofs.texts.DecimalTextLexedLemmas.{decimal_text_lexed, decimal_text_faults}
 use Rattle.text_decimal.proofs.texts.laws.decimals_are_by_lexemes.Goals as goal
 
 pub returns : goal.returns

@@ -1,4 +1,4 @@
-use Rattle.text_decimal.proofs.texts.FeedLemmas.{decimals_no_feed}
+use Rattle.text_decimal.proofs.texts.DecimalTextFeedLemmas.{decimals_no_feed}
 use Rattle.text_decimal.proofs.texts.laws.decimals_stay_on_one_line.Goals as goal
 
 pub returns : goal.returns

@@ -1,6 +1,6 @@
 use Rattle.std.proofs.Common.{◌≡◌, ◌∙◌, ◌++◌, cond, OnOk, true, slice_range, sym, subst}
 use Rattle.std.specs.Prelude.{◌&&◌}
-use Rattle.text_print.specs.leaves.Leaves.{float_text}
+use Rattle.text_print.specs.leaves.LeafTexts.{float_text}
 use Rattle.text_decimal.specs.decimal.Shortest.{double_text}
 use Rattle.text_decimal.specs.texts.Texts.{stands_alone}
 use Rattle.text_decimal.proofs.texts.texts.write_bits.Goals as goal

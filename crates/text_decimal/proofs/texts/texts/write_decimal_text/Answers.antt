@@ -1,7 +1,7 @@
 use Rattle.std.proofs.Common.{rules, sym, subst}
 use Rattle.types_lex.specs.declared.lexeme.LexFault.{LexFault}
 use Rattle.types_lex.specs.LexText.{Lexes, Faults}
-use Rattle.text_decimal.proofs.texts.LexedLemmas.{write_lexed, write_kept}
+use Rattle.text_decimal.proofs.texts.DecimalTextLexedLemmas.{write_lexed, write_kept}
 use Rattle.text_decimal.proofs.texts.texts.write_decimal_text.Goals as goal
 
 pub returns-in-Ok : goal.returns-in-Ok

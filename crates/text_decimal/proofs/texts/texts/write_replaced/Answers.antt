@@ -1,5 +1,5 @@
 use Rattle.std.proofs.Common.{length, arith}
-use Rattle.text_decimal.proofs.texts.ReplacedLemmas.{last_within, first_within, spans_behind, so_far_here, so_far_more}
+use Rattle.text_decimal.proofs.texts.DecimalTextReplacedLemmas.{last_within, first_within, spans_behind, so_far_here, so_far_more}
 use Rattle.text_decimal.proofs.texts.texts.write_replaced.Goals as goal
 
 pub slice_bounds-write-end : goal.slice_bounds-write-end

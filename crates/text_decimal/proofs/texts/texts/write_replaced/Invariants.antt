@@ -1,6 +1,6 @@
 use Rattle.std.proofs.Common.{◌≤◌, drop, length}
 use Rattle.types_lex.specs.LexText.{SpansWithin}
-use Rattle.text_decimal.proofs.texts.ReplacedLemmas.{IsSoFar}
+use Rattle.text_decimal.proofs.texts.DecimalTextReplacedLemmas.{IsSoFar}
 use Rattle.text_decimal.proofs.texts.texts.write_replaced.Given as goal
 
 abbrev pub invariant-loop-lexeme : goal.invariant-loop-lexeme

@@ -1,5 +1,5 @@
 use Rattle.std.proofs.Common.{◌≡◌, ◌+◌, ◌-◌, Some, [], take, drop}
-use Rattle.types_parse.specs.grammar.Lexemes.{kinds_of}
+use Rattle.types_parse.specs.grammar.LexemeKinds.{kinds_of}
 use Rattle.text_literal.specs.parser.Bits.{bits_of_nodes}
 use Rattle.text_literal.proofs.parser.doubles.all_bits.Given as goal
 

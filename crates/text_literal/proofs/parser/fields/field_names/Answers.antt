@@ -1,7 +1,7 @@
 use Rattle.std.proofs.Common.{◌≡◌, ◌+◌, ◌∙◌, ℕ, IfOk, List, Bor, map, subst, sym, ap}
 use Rattle.std.proofs.lemmas.Option.{get_or_from_slice_get}
-use Rattle.text_literal.specs.declared.grammar.literal_node.LiteralNode.{LiteralNode}
-use Rattle.types_parse.specs.grammar.Lexemes.{kinds_of}
+use Rattle.text_literal.specs.declared.literal_grammar.literal_node.LiteralNode.{LiteralNode}
+use Rattle.types_parse.specs.grammar.LexemeKinds.{kinds_of}
 use Rattle.text_literal.specs.parser.FieldNames.{names_from}
 use Rattle.text_literal.proofs.parser.FieldNameLemmas.{field_names_are}
 use Rattle.text_literal.proofs.parser.fields.field_names.Goals as goal

@@ -1,9 +1,9 @@
 use Rattle.std.proofs.Common.{ℕ, ◌-◌, ◌∙◌, List, [], ◌∷◌, Bor, sym, ap, map, arith}
 use Rattle.std.proofs.lemmas.Option.{get_or_from_slice_get}
-use Rattle.text_literal.specs.declared.grammar.literal_node.LiteralNode.{LiteralNode}
+use Rattle.text_literal.specs.declared.literal_grammar.literal_node.LiteralNode.{LiteralNode}
 use Rattle.text_literal.specs.parser.FieldNames.{name_before}
 use Rattle.std.proofs.lemmas.List.{map-append}
-use Rattle.types_parse.specs.grammar.Lexemes.{kinds_of}
+use Rattle.types_parse.specs.grammar.LexemeKinds.{kinds_of}
 use Rattle.text_literal.proofs.parser.FieldNameLemmas.{names_step}
 use Rattle.text_literal.proofs.parser.fields.names_from.Goals as goal
 

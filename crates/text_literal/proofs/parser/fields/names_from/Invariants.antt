@@ -1,5 +1,5 @@
 use Rattle.std.proofs.Common.{◌≡◌, ◌++◌, map}
-use Rattle.types_parse.specs.grammar.Lexemes.{kinds_of}
+use Rattle.types_parse.specs.grammar.LexemeKinds.{kinds_of}
 use Rattle.text_literal.specs.parser.FieldNames as specs
 use Rattle.text_literal.proofs.parser.fields.names_from.Given as goal
 

@@ -1,4 +1,4 @@
-use Rattle.text_literal.proofs.parser.AnswerLemmas.{one_answer}
+use Rattle.text_literal.proofs.parser.LiteralParserAnswerLemmas.{one_answer}
 use Rattle.text_literal.proofs.parser.laws.one_literal_answer.Goals as goal
 
 pub returns : goal.returns

@@ -1,5 +1,5 @@
 use Rattle.std.proofs.Common.{◌∙◌}
-use Rattle.text_literal.proofs.parser.NameLemmas.{unnamed}
+use Rattle.text_literal.proofs.parser.LiteralParserNameLemmas.{unnamed}
 use Rattle.text_literal.proofs.parser.opening.is_unnamed.Goals as goal
 
 pub returns : goal.returns

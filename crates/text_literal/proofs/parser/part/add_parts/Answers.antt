@@ -5,9 +5,9 @@ use Rattle.std.specs.Prelude.{◌+◌, ◌≡◌, pos, [], ◌∷◌, ◌++◌, 
 use Rattle.base_data.specs.declared.model.value.Obj.TheVariants as objects
 use Rattle.base_data.specs.declared.model.value.Val.TheVariants as vals
 use Rattle.marshal_heap.specs.heap.Heap.{set_field}
-use Rattle.marshal_heap.proofs.heap.FieldLemmas.{set_field_at}
+use Rattle.marshal_heap.proofs.heap.HeapFieldLemmas.{set_field_at}
 use Rattle.text_literal.specs.parser.Openings.{prefix_of}
-use Rattle.text_literal.proofs.parser.StartLemmas.{first_set}
+use Rattle.text_literal.proofs.parser.LiteralParserStartLemmas.{first_set}
 use Rattle.text_literal.proofs.parser.part.add_parts.Goals as goal
 
 pub returns-in_ok-o-in-Some-clause-block : goal.returns-in_ok-o-in-Some-clause-block

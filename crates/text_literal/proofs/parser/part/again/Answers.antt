@@ -1,7 +1,7 @@
 use Rattle.std.proofs.Common.{sym, ap, ◌∙◌}
 use Rattle.std.specs.Prelude.{option_and_then, slice_get}
-use Rattle.text_literal.specs.declared.grammar.literal_node.LiteralNode.{LiteralNode}
-use Rattle.text_literal.proofs.parser.PlacedLemmas.{again_given}
+use Rattle.text_literal.specs.declared.literal_grammar.literal_node.LiteralNode.{LiteralNode}
+use Rattle.text_literal.proofs.parser.LiteralParserPlacedLemmas.{again_given}
 use Rattle.text_literal.proofs.parser.part.again.Goals as goal
 
 pub returns-in-Some : goal.returns-in-Some

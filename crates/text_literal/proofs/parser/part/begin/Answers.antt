@@ -1,17 +1,17 @@
 use Rattle.std.proofs.Common.{arith, sym, ap, ◌∙◌, subst}
 use Rattle.std.specs.Prelude.{ℕ, ◌+◌, ◌<◌, ◌≡◌, true, false, List, [], length, All, option_map, slice_get}
 use Rattle.std.proofs.lemmas.List.{append-nil}
-use Rattle.text_literal.specs.declared.grammar.literal_node.LiteralNode.{LiteralNode}
+use Rattle.text_literal.specs.declared.literal_grammar.literal_node.LiteralNode.{LiteralNode}
 use Rattle.types_lex.specs.declared.lexeme.Lexeme.{Lexeme}
-use Rattle.text_literal.specs.grammar.Literal.{again, label_kinds}
+use Rattle.text_literal.specs.literal_grammar.Literal.{again, label_kinds}
 use Rattle.text_literal.specs.parser.LiteralAnswers.{shape_in, names_in}
-use Rattle.text_literal.specs.parser.Reading.{is_next, literal_read}
+use Rattle.text_literal.specs.parser.LiteralReading.{is_next, literal_read}
 use Rattle.text_literal.specs.parser.Standing.{Stands, own_node}
 use Rattle.text_literal.specs.parser.Underway.{Begins, MayRefuse}
-use Rattle.text_literal.specs.declared.parser.fault.LiteralFault.TheVariants as faults
+use Rattle.text_literal.specs.declared.parser.literal_fault.LiteralFault.TheVariants as faults
 use Rattle.text_literal.proofs.parser.GoLemmas.{own_found, again_only, plain_only, part_inside, first_within}
 use Rattle.text_literal.proofs.parser.StandingLemmas.{lead_is}
-use Rattle.text_literal.proofs.parser.PlacedLemmas.{number_refused}
+use Rattle.text_literal.proofs.parser.LiteralParserPlacedLemmas.{number_refused}
 use Rattle.text_literal.proofs.parser.part.begin.Goals as goal
 
 pub get-node-requires : goal.get-node-requires

@@ -1,5 +1,5 @@
 use Rattle.std.proofs.Common.{◌≡◌}
-use Rattle.text_literal.specs.parser.Ends as specs
+use Rattle.text_literal.specs.parser.SubtreeEnds as specs
 use Rattle.text_literal.proofs.parser.siblings.sibling.Given as goal
 
 -- From the current node, the remaining steps lead to the node that is `many` siblings after `from`.

@@ -1,7 +1,7 @@
 use Rattle.std.proofs.Common.{◌-◌, ◌+◌, ◌∙◌, arith, rules, sym, ap}
 use Rattle.std.proofs.lemmas.Option.{get_or_from_slice_get}
-use Rattle.text_literal.specs.declared.grammar.literal_node.LiteralNode.{LiteralNode}
-use Rattle.text_literal.specs.parser.Ends.{sibling}
+use Rattle.text_literal.specs.declared.literal_grammar.literal_node.LiteralNode.{LiteralNode}
+use Rattle.text_literal.specs.parser.SubtreeEnds.{sibling}
 use Rattle.text_literal.proofs.parser.EndsLemmas.{ends_none, ends_all, ends_more}
 use Rattle.text_literal.proofs.parser.siblings.subtree_ends.Goals as goal
 

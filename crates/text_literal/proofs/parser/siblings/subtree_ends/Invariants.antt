@@ -1,5 +1,5 @@
 use Rattle.std.proofs.Common.{◌≡◌, length}
-use Rattle.text_literal.specs.parser.Ends.{AreEndsFrom}
+use Rattle.text_literal.specs.parser.SubtreeEnds.{AreEndsFrom}
 use Rattle.text_literal.proofs.parser.siblings.subtree_ends.Given as goal
 
 -- The entries of `ends` from i on are correct.

@@ -1,6 +1,6 @@
 use Rattle.std.proofs.Common.{sym, subst}
 use Rattle.std.specs.Prelude.{◌≡◌, IfOk}
-use Rattle.text_literal.specs.grammar.Literal.{array}
+use Rattle.text_literal.specs.literal_grammar.Literal.{array}
 use Rattle.text_literal.specs.parser.Started.{start_in}
 use Rattle.text_literal.specs.parser.Starts.{start_at}
 use Rattle.text_literal.proofs.parser.start.array_start.Goals as goal

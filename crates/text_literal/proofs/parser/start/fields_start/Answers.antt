@@ -3,11 +3,11 @@ use Rattle.std.specs.Prelude.{ℕ, ◌≡◌, List, map, None, IfOk}
 use Rattle.std.proofs.Common.{Bor}
 use Rattle.types_lex.specs.declared.lexeme.LexemeKind.TheVariants as kinds
 use Rattle.types_lex.specs.declared.lexeme.Symbol.TheVariants as symbols
-use Rattle.text_literal.specs.grammar.Literal.{labelled, fields}
+use Rattle.text_literal.specs.literal_grammar.Literal.{labelled, fields}
 use Rattle.text_literal.specs.parser.Standing.{Stands}
 use Rattle.text_literal.specs.parser.Started.{start_in}
 use Rattle.text_literal.specs.parser.Starts.{start_at}
-use Rattle.text_literal.proofs.parser.StartLemmas.{owner_none}
+use Rattle.text_literal.proofs.parser.LiteralParserStartLemmas.{owner_none}
 use Rattle.text_literal.proofs.parser.start.fields_start.Goals as goal
 
 pub returns-in-Symbol-OpenBrace-clause-start : goal.returns-in-Symbol-OpenBrace-clause-start

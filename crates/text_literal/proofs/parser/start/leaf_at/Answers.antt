@@ -2,7 +2,7 @@ use Rattle.std.proofs.Common.{sym, ap, ◌∙◌}
 use Rattle.std.specs.Prelude.{◌≡◌, option_map}
 use Rattle.text_literal.specs.parser.LiteralAnswers.{shape_in, names_in}
 use Rattle.text_literal.specs.parser.Starts.{start_at}
-use Rattle.text_literal.proofs.parser.StartLemmas.{shape_known, names_known}
+use Rattle.text_literal.proofs.parser.LiteralParserStartLemmas.{shape_known, names_known}
 use Rattle.text_literal.proofs.parser.start.leaf_at.Goals as goal
 
 pub returns-in-Some-clause-leaf : goal.returns-in-Some-clause-leaf

@@ -1,12 +1,12 @@
 use Rattle.std.proofs.Common.{sym, ap, ◌∙◌}
 use Rattle.std.specs.Prelude.{◌+◌, ◌≡◌, length, IfOk}
-use Rattle.text_literal.specs.declared.grammar.literal_node.LiteralNode.{LiteralNode}
-use Rattle.text_literal.specs.grammar.Literal.{labelled, label_kinds}
+use Rattle.text_literal.specs.declared.literal_grammar.literal_node.LiteralNode.{LiteralNode}
+use Rattle.text_literal.specs.literal_grammar.Literal.{labelled, label_kinds}
 use Rattle.text_literal.specs.parser.Openings.{opening_in}
 use Rattle.text_literal.specs.parser.Standing.{Stands, lead_of_plain}
 use Rattle.text_literal.specs.parser.Started.{start_in}
 use Rattle.text_literal.specs.parser.Starts.{start_at}
-use Rattle.text_literal.proofs.parser.StartLemmas.{tuple_only, applied_only, array_only, fields_only, no_other}
+use Rattle.text_literal.proofs.parser.LiteralParserStartLemmas.{tuple_only, applied_only, array_only, fields_only, no_other}
 use Rattle.text_literal.proofs.parser.start.opening_start.Goals as goal
 
 pub returns-in-Tuple-clause-start : goal.returns-in-Tuple-clause-start

@@ -1,6 +1,6 @@
 use Rattle.std.proofs.Common.{sym, ap, ◌∙◌, subst}
 use Rattle.std.specs.Prelude.{◌≡◌, ◌&&◌, ◌==◌, ◌++◌, ◌∷◌, [], None, IfOk}
-use Rattle.text_literal.specs.grammar.Literal.{fields}
+use Rattle.text_literal.specs.literal_grammar.Literal.{fields}
 use Rattle.text_literal.specs.parser.Started.{start_in}
 use Rattle.text_literal.specs.parser.Starts.{start_at, if_fits, doubles_start, and_bits, bits_of, bits_of_rows, same_names, names_of_rows}
 use Rattle.text_literal.proofs.parser.start.record_start.Goals as goal

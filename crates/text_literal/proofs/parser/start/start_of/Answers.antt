@@ -5,7 +5,7 @@ use Rattle.types_spec.specs.declared.types.shape.ShapeOf.{ShapeOf}
 use Rattle.text_literal.specs.parser.LiteralAnswers.{shape_in, names_in}
 use Rattle.text_literal.specs.parser.Started.{start_in}
 use Rattle.text_literal.specs.parser.Starts.{start_at}
-use Rattle.text_literal.proofs.parser.StartLemmas.{shape_known, names_known}
+use Rattle.text_literal.proofs.parser.LiteralParserStartLemmas.{shape_known, names_known}
 use Rattle.text_literal.proofs.parser.start.start_of.Goals as goal
 
 pub returns-clause-start : goal.returns-clause-start

@@ -1,6 +1,6 @@
 use Rattle.std.proofs.Common.{ℕ, ◌≡◌, ◌≤◌, List, [], sym, subst}
 use Rattle.std.specs.Prelude.{All, Any, MatchOption}
-use Rattle.text_path.specs.Order.{ScriptLines, IsByValue, positions_of}
+use Rattle.text_path.specs.LineOrder.{ScriptLines, IsByValue, positions_of}
 use Rattle.text_path.specs.Uses.{IsUnused, IsLastUse}
 use Rattle.text_path.proofs.UseLemmas.{last_is}
 use Rattle.text_path.proofs.edits.Script.last_use.Goals as goal

@@ -1,6 +1,6 @@
 use Rattle.std.proofs.Common.{◌∙◌, ap, sym, subst}
-use Rattle.text_path.specs.Order.{ScriptLines, lines_of, positions_of, lines_at, AreWithin}
-use Rattle.text_path.proofs.OrderLemmas.{found_within, found_lines}
+use Rattle.text_path.specs.LineOrder.{ScriptLines, lines_of, positions_of, lines_at, AreWithin}
+use Rattle.text_path.proofs.PathOrderLemmas.{found_within, found_lines}
 use Rattle.text_path.proofs.edits.Script.lines_of.Goals as goal
 
 pub invariant_of-result : goal.invariant_of-result

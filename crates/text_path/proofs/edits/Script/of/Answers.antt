@@ -1,5 +1,5 @@
 use Rattle.std.proofs.Common.{subst}
-use Rattle.text_path.specs.Order.{IsOrder}
+use Rattle.text_path.specs.LineOrder.{IsOrder}
 use Rattle.text_path.specs.Uses.{AreUses}
 use Rattle.text_path.proofs.edits.Script.of.Goals as goal
 

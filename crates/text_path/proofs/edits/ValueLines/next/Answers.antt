@@ -1,5 +1,5 @@
 use Rattle.std.proofs.Common.{◌∙◌, sym}
-use Rattle.text_path.proofs.OrderLemmas.{more_within, next_line}
+use Rattle.text_path.proofs.PathOrderLemmas.{more_within, next_line}
 use Rattle.text_path.proofs.edits.ValueLines.next.Goals as goal
 
 pub invariant_of-self : goal.invariant_of-self

@@ -1,7 +1,7 @@
 use Rattle.std.proofs.Common.{get_or, refl, arith}
 use Rattle.text_print.specs.leaves.Frames.{double_text}
 use Rattle.text_print.specs.leaves.FrameView.{frame_in}
-use Rattle.text_print.proofs.leaves.RowLemmas.{row_step}
+use Rattle.text_print.proofs.leaves.LeafRowLemmas.{row_step}
 use Rattle.text_print.proofs.leaves.at_type.write_double_parts.Goals as goal
 
 pub loop-i-preserved : goal.loop-i-preserved

@@ -2,10 +2,10 @@ use Rattle.std.proofs.Common.{◌≡◌, ◌∙◌, ◌++◌, sym, ap, subst}
 use Rattle.std.specs.Prelude.{OnOk}
 use Rattle.marshal_heap.specs.declared.heap.kind.Kind.TheVariants as kinds
 use Rattle.marshal_heap.specs.heap.Heap.{object_at}
-use Rattle.text_print.specs.leaves.Leaves.{string_text}
+use Rattle.text_print.specs.leaves.LeafTexts.{string_text}
 use Rattle.text_print.specs.leaves.Frames.{object_text}
-use Rattle.text_print.proofs.leaves.StringLemmas.{string_body}
-use Rattle.text_print.proofs.leaves.ObjectLemmas.{of_kind}
+use Rattle.text_print.proofs.leaves.LeafStringLemmas.{string_body}
+use Rattle.text_print.proofs.leaves.LeafObjectLemmas.{of_kind}
 use Rattle.text_print.proofs.leaves.at_type.write_object_at.Goals as goal
 
 pub write_string_of-requires : goal.write_string_of-requires

@@ -1,7 +1,7 @@
 use Rattle.std.proofs.Common.{◌≡◌, ◌++◌, take}
 use Rattle.std.specs.List.{flat_map}
 use Rattle.marshal_heap.specs.heap.Heap.{object_at, doubles_of}
-use Rattle.text_print.specs.leaves.Dumped.{spaced_float}
+use Rattle.text_print.specs.leaves.DumpedObjects.{spaced_float}
 use Rattle.text_print.proofs.leaves.dump.write_doubles.Given as goal
 
 abbrev pub invariant-loop-i : goal.invariant-loop-i

@@ -3,9 +3,9 @@ use Rattle.std.specs.Int.{w64, to_le_bytes}
 use Rattle.std.specs.List.{flat_map}
 use Rattle.std.specs.Prelude.{OnOk, codes}
 use Rattle.marshal_heap.specs.heap.Heap.{object_at, IsOfKind}
-use Rattle.text_print.specs.leaves.Leaves.{string_text}
-use Rattle.text_print.specs.leaves.Dumped.{text_of_kind}
-use Rattle.text_print.proofs.leaves.StringLemmas.{string_body}
+use Rattle.text_print.specs.leaves.LeafTexts.{string_text}
+use Rattle.text_print.specs.leaves.DumpedObjects.{text_of_kind}
+use Rattle.text_print.proofs.leaves.LeafStringLemmas.{string_body}
 use Rattle.text_print.proofs.leaves.dump.write_object.Goals as goal
 
 pub write_string_of-requires : goal.write_string_of-requires

@@ -1,7 +1,7 @@
 use Rattle.std.proofs.Common.{◌≡◌, ◌==◌, ◌<◌, ◌∷◌, [], take, sym, subst, arith}
 use Rattle.std.proofs.lemmas.List.{get_or-take, length-take}
 use Rattle.std.proofs.lemmas.Bool.{OnTrue_from}
-use Rattle.text_print.specs.leaves.Leaves.{escaped}
+use Rattle.text_print.specs.leaves.LeafTexts.{escaped}
 use Rattle.text_print.proofs.leaves.EscapeLemmas.{all_plain, eq_zero}
 use Rattle.text_print.proofs.leaves.escape.are_plain.Goals as goal
 

@@ -1,5 +1,5 @@
 use Rattle.std.proofs.Common.{ℕ, ◌≡◌, ◌≤◌, ◌<◌, ◌∷◌, [], get_or}
-use Rattle.text_print.specs.leaves.Leaves.{escaped}
+use Rattle.text_print.specs.leaves.LeafTexts.{escaped}
 use Rattle.text_print.proofs.leaves.escape.are_plain.Given as goal
 
 abbrev pub invariant-loop-i : goal.invariant-loop-i

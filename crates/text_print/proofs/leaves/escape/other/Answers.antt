@@ -2,7 +2,7 @@ use Rattle.std.proofs.Common.{◌≡◌, ℕ, ◌==◌, ◌<◌, ◌≤◌, Bool
 use Rattle.std.proofs.lemmas.Bool.Decides.{eqb_tells}
 use Rattle.std.proofs.lemmas.List.FromFn.{get_or-map-range_with_len}
 use Rattle.std.specs.List.{range_with_len}
-use Rattle.text_print.specs.leaves.Leaves.{escaped}
+use Rattle.text_print.specs.leaves.LeafTexts.{escaped}
 use Rattle.text_print.specs.declared.leaves.escape.TheConstants.{OTHERS}
 use Rattle.text_print.proofs.leaves.escape.other.Goals as goal
 

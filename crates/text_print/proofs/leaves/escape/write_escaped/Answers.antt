@@ -1,5 +1,5 @@
 use Rattle.std.proofs.Common.{◌<◌, length, arith}
-use Rattle.text_print.specs.leaves.Leaves.{escaped}
+use Rattle.text_print.specs.leaves.LeafTexts.{escaped}
 use Rattle.text_print.proofs.leaves.EscapeLemmas.{plain_byte, other_byte}
 use Rattle.text_print.proofs.leaves.escape.write_escaped.Goals as goal
 

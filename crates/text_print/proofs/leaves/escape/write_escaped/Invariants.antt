@@ -1,6 +1,6 @@
 use Rattle.std.proofs.Common.{◌≡◌, ◌≤◌, ◌++◌, take}
 use Rattle.std.specs.List.{flat_map, slice_range}
-use Rattle.text_print.specs.leaves.Leaves.{escaped}
+use Rattle.text_print.specs.leaves.LeafTexts.{escaped}
 use Rattle.text_print.proofs.leaves.escape.write_escaped.Given as goal
 
 -- The bytes from `start` on are not yet appended.

@@ -1,8 +1,8 @@
 use Rattle.std.proofs.Common.{◌+◌, take, arith}
 use Rattle.marshal_heap.specs.heap.Heap.{object_at}
-use Rattle.text_print.specs.leaves.Dumped.{root_line, object_line}
-use Rattle.text_print.specs.show.Dumped.{lines_from}
-use Rattle.text_print.proofs.print.DumpLemmas.{lines_more, line_written}
+use Rattle.text_print.specs.leaves.DumpedObjects.{root_line, object_line}
+use Rattle.text_print.specs.show.DumpedGraph.{lines_from}
+use Rattle.text_print.proofs.print.PrintDumpLemmas.{lines_more, line_written}
 use Rattle.text_print.proofs.print.dumped.write_dump.Goals as goal
 
 pub loop-o-preserved : goal.loop-o-preserved

@@ -1,6 +1,6 @@
 use Rattle.std.proofs.Common.{◌≡◌, ◌++◌, take}
-use Rattle.text_print.specs.leaves.Dumped.{root_line}
-use Rattle.text_print.specs.show.Dumped.{lines_from}
+use Rattle.text_print.specs.leaves.DumpedObjects.{root_line}
+use Rattle.text_print.specs.show.DumpedGraph.{lines_from}
 use Rattle.text_print.proofs.print.dumped.write_dump.Given as goal
 
 abbrev pub invariant-loop-o : goal.invariant-loop-o

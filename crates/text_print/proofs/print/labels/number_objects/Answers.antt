@@ -1,5 +1,5 @@
 use Rattle.std.proofs.Common.{arith}
-use Rattle.text_print.proofs.print.LabelLemmas.{numbers_all}
+use Rattle.text_print.proofs.print.PrintLabelLemmas.{numbers_all}
 use Rattle.text_print.proofs.print.labels.number_objects.Goals as goal
 
 pub returns : goal.returns

@@ -1,5 +1,5 @@
 use Rattle.std.proofs.Common.{◌≡◌, ◌≤◌, ◌-◌, length}
-use Rattle.text_print.proofs.print.LabelLemmas.{AreNumbersFrom}
+use Rattle.text_print.proofs.print.PrintLabelLemmas.{AreNumbersFrom}
 use Rattle.text_print.proofs.print.labels.number_objects.Given as goal
 
 abbrev pub invariant-loop-k : goal.invariant-loop-k

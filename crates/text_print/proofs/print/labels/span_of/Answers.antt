@@ -3,7 +3,7 @@ use Rattle.std.specs.Prelude.{All}
 use Rattle.std.proofs.lemmas.Grind.{common_steps}
 use Rattle.std.proofs.lemmas.List.{take_all}
 use Rattle.text_print.specs.print.Labels.{IsBetween}
-use Rattle.text_print.proofs.print.LabelLemmas.{span_more}
+use Rattle.text_print.proofs.print.PrintLabelLemmas.{span_more}
 use Rattle.text_print.proofs.print.labels.span_of.Goals as goal
 
 pub loop-o-preserved : goal.loop-o-preserved

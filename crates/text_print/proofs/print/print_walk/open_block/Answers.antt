@@ -3,8 +3,8 @@ use Rattle.std.proofs.lemmas.Grind.{common_steps}
 use Rattle.base_data.specs.declared.model.value.Val.TheVariants as vals
 use Rattle.types_spec.specs.types.Fitting.{or_none, fields_of}
 use Rattle.check_heap.specs.fits.Needs.{needs_in}
-use Rattle.text_print.specs.show.Tables.{shape_in}
-use Rattle.text_print.proofs.print.WalkLemmas.{open_parts, some_fields}
+use Rattle.text_print.specs.show.TableShapes.{shape_in}
+use Rattle.text_print.proofs.print.PrintWalkLemmas.{open_parts, some_fields}
 use Rattle.text_print.proofs.print.print_walk.open_block.Goals as goal
 
 pub returns-clause-open : goal.returns-clause-open

@@ -1,4 +1,4 @@
-use Rattle.text_print.proofs.print.WalkLemmas.{field_word_at}
+use Rattle.text_print.proofs.print.PrintWalkLemmas.{field_word_at}
 use Rattle.text_print.proofs.print.print_walk.value_at.Goals as goal
 
 pub value_of-requires : goal.value_of-requires

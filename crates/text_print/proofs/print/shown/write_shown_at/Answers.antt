@@ -1,14 +1,14 @@
 use Rattle.std.proofs.Common.{ℕ, List, ◌≡◌, ◌∙◌, ◌++◌, ap, subst, rules, arith, take, length}
 use Rattle.std.specs.List.{flat_map}
 use Rattle.std.proofs.lemmas.Grind.{common_steps}
-use Rattle.text_print.specs.show.Chunks.{chunk_text, text_of}
-use Rattle.text_print.specs.show.Shown.{shown_text, chunks_of}
-use Rattle.text_print.specs.show.Tables.{shape_in, names_in}
-use Rattle.text_print.specs.print.Flat.{WritesWhole}
+use Rattle.text_print.specs.show.TextChunks.{chunk_text, text_of}
+use Rattle.text_print.specs.show.ShownValues.{shown_text, chunks_of}
+use Rattle.text_print.specs.show.TableShapes.{shape_in, names_in}
+use Rattle.text_print.specs.print.FlatText.{WritesWhole}
 use Rattle.text_print.specs.print.Write.{IsWritten, IsGrown}
-use Rattle.text_print.proofs.print.ShownLemmas.{text_whole, take_prefix}
+use Rattle.text_print.proofs.print.PrintShownLemmas.{text_whole, take_prefix}
 use Rattle.types_table.specs.type_table.Made.{table_of}
-use Rattle.text_print.proofs.print.TypedLemmas.{typed_at}
+use Rattle.text_print.proofs.print.PrintTypedLemmas.{typed_at}
 use Rattle.text_print.proofs.print.shown.write_shown_at.Goals as goal
 
 pub write_flat-requires : goal.write_flat-requires

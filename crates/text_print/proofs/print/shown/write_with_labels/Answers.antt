@@ -1,9 +1,9 @@
 use Rattle.std.proofs.Common.{subst, Some, []}
-use Rattle.text_print.specs.show.Shown.{chunks_of}
-use Rattle.text_print.specs.show.Tables.{shape_in, names_in}
-use Rattle.text_print.specs.print.Walking.{Gives, left_of, chunks_left, step_chunks}
-use Rattle.text_print.proofs.print.LeftLemmas.{start_left}
-use Rattle.text_print.proofs.print.ShownLemmas.{text_more, text_all}
+use Rattle.text_print.specs.show.ShownValues.{chunks_of}
+use Rattle.text_print.specs.show.TableShapes.{shape_in, names_in}
+use Rattle.text_print.specs.print.PrintWalk.{Gives, left_of, chunks_left, step_chunks}
+use Rattle.text_print.proofs.print.PrintLeftLemmas.{start_left}
+use Rattle.text_print.proofs.print.PrintShownLemmas.{text_more, text_all}
 use Rattle.text_print.proofs.print.shown.write_with_labels.Goals as goal
 
 pub loop-walk-preserved : goal.loop-walk-preserved

@@ -1,7 +1,7 @@
 use Rattle.std.proofs.Common.{◌≡◌, ◌++◌, Some, [], length}
 use Rattle.std.specs.List.{flat_map}
-use Rattle.text_print.specs.show.Chunks.{chunk_text}
-use Rattle.text_print.specs.print.Walking.{left_of, chunks_left, IsWalk}
+use Rattle.text_print.specs.show.TextChunks.{chunk_text}
+use Rattle.text_print.specs.print.PrintWalk.{left_of, chunks_left, IsWalk}
 use Rattle.text_print.proofs.print.shown.write_with_labels.Given as goal
 
 abbrev pub invariant-loop-walk : goal.invariant-loop-walk

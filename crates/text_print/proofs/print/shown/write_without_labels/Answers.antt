@@ -3,14 +3,14 @@ use Rattle.std.proofs.lemmas.Grind.{common_steps}
 use Rattle.std.specs.Prelude.{All, filter}
 use Rattle.std.proofs.lemmas.List.Elements.{All-filter}
 use Rattle.std.specs.List.{flat_map}
-use Rattle.text_print.specs.show.Chunks.{labelled, chunk_text}
-use Rattle.text_print.specs.show.Shown.{chunks_of}
-use Rattle.text_print.specs.show.Tables.{shape_in, names_in}
+use Rattle.text_print.specs.show.TextChunks.{labelled, chunk_text}
+use Rattle.text_print.specs.show.ShownValues.{chunks_of}
+use Rattle.text_print.specs.show.TableShapes.{shape_in, names_in}
 use Rattle.text_print.specs.print.Labels.{AreCounted}
-use Rattle.text_print.specs.print.Walking.{Gives, left_of, chunks_left}
-use Rattle.text_print.proofs.print.LeftLemmas.{start_left}
-use Rattle.text_print.proofs.print.LabelLemmas.{first_left, counted_more, counted_all}
-use Rattle.text_print.proofs.print.PlainLemmas.{counted_written, whole_written}
+use Rattle.text_print.specs.print.PrintWalk.{Gives, left_of, chunks_left}
+use Rattle.text_print.proofs.print.PrintLeftLemmas.{start_left}
+use Rattle.text_print.proofs.print.PrintLabelLemmas.{first_left, counted_more, counted_all}
+use Rattle.text_print.proofs.print.PrintPlainLemmas.{counted_written, whole_written}
 use Rattle.text_print.proofs.print.shown.write_without_labels.Goals as goal
 
 pub returns-then-branch-clause-text : goal.returns-then-branch-clause-text

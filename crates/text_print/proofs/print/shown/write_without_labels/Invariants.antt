@@ -1,5 +1,5 @@
 use Rattle.std.proofs.Common.{Some, [], length}
-use Rattle.text_print.specs.print.Walking.{left_of, chunks_left}
+use Rattle.text_print.specs.print.PrintWalk.{left_of, chunks_left}
 use Rattle.text_print.specs.print.Labels.{AreCounted}
 use Rattle.text_print.proofs.print.shown.write_without_labels.Given as goal
 

@@ -1,6 +1,6 @@
 use Rattle.types_spec.specs.types.Names.{names_of}
 use Rattle.types_spec.specs.types.Shape.{shape}
-use Rattle.text_print.proofs.same_type.TextLemmas.{text_is_kept}
+use Rattle.text_print.proofs.same_type.SameTypeTextLemmas.{text_is_kept}
 use Rattle.text_print.proofs.same_type.laws.the_same_has_the_same_text.Goals as goal
 
 pub returns-clause-declared : goal.returns-clause-declared

@@ -1,6 +1,6 @@
 use Rattle.types_spec.specs.types.Names.{names_of}
 use Rattle.types_spec.specs.types.Shape.{shape}
-use Rattle.text_print.specs.show.Tables.{shape_in, names_in}
+use Rattle.text_print.specs.show.TableShapes.{shape_in, names_in}
 use Rattle.text_print.proofs.show.FuelLemmas.{more_same}
 use Rattle.text_print.proofs.show.laws.more_is_the_same.Goals as goal
 

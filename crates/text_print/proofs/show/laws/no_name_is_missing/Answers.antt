@@ -1,5 +1,5 @@
 use Rattle.text_print.proofs.show.NamedLemmas.{has_its_names}
-use Rattle.text_print.proofs.show.PartLemmas.{parts_have_names}
+use Rattle.text_print.proofs.show.ShowPartLemmas.{parts_have_names}
 use Rattle.text_print.proofs.show.laws.no_name_is_missing.Goals as goal
 
 pub returns-clause-fitting : goal.returns-clause-fitting

@@ -1,4 +1,4 @@
-use Rattle.text_print.proofs.show.TableLemmas.{root_agree}
+use Rattle.text_print.proofs.show.ShowTableLemmas.{root_agree}
 use Rattle.text_print.proofs.show.laws.roots_show_agree.Goals as goal
 
 pub returns : goal.returns

@@ -1,4 +1,4 @@
-use Rattle.text_print.proofs.show.TableLemmas.{show_agree}
+use Rattle.text_print.proofs.show.ShowTableLemmas.{show_agree}
 use Rattle.text_print.proofs.show.laws.tables_show_agree.Goals as goal
 
 pub returns : goal.returns

@@ -1,6 +1,6 @@
 use Rattle.text_roundtrip.specs.lexed.Lexed.{Anything}
 use Rattle.text_roundtrip.proofs.lexed.CharLemmas.{char_lexed, string_lexed}
-use Rattle.text_roundtrip.proofs.lexed.NumberLemmas.{lexed_bits, lexed_integer}
+use Rattle.text_roundtrip.proofs.lexed.LexedNumberLemmas.{lexed_bits, lexed_integer}
 use Rattle.text_roundtrip.proofs.lexed.laws.texts_are_lexemes.Goals as goal
 
 pub returns : goal.returns

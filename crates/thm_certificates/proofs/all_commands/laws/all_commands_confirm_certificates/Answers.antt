@@ -1,4 +1,4 @@
-use Rattle.thm_certificates.proofs.all_commands.AllLemmas.{all_confirm}
+use Rattle.thm_certificates.proofs.all_commands.AllCommandsLemmas.{all_confirm}
 use Rattle.thm_certificates.proofs.all_commands.laws.all_commands_confirm_certificates.Goals as goal
 
 pub returns : goal.returns

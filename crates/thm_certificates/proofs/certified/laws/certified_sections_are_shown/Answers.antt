@@ -1,5 +1,5 @@
-use Rattle.run_types.proofs.GivenLemmas.{given_sound}
-use Rattle.thm_certificates.proofs.certified.ShownLemmas.{section_shown}
+use Rattle.run_types.proofs.RunTypesGivenLemmas.{given_sound}
+use Rattle.thm_certificates.proofs.certified.CertifiedShownLemmas.{section_shown}
 use Rattle.thm_certificates.proofs.certified.laws.certified_sections_are_shown.Goals as goal
 
 pub returns : goal.returns

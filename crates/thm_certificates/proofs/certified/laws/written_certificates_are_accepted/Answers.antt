@@ -1,5 +1,5 @@
-use Rattle.run_types.proofs.GivenLemmas.{given_sound}
-use Rattle.thm_certificates.proofs.certified.AcceptedLemmas.{are_accepted}
+use Rattle.run_types.proofs.RunTypesGivenLemmas.{given_sound}
+use Rattle.thm_certificates.proofs.certified.CertifiedAcceptedLemmas.{are_accepted}
 use Rattle.thm_certificates.proofs.certified.laws.written_certificates_are_accepted.Goals as goal
 
 pub returns : goal.returns

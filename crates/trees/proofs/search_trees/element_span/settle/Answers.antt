@@ -5,7 +5,7 @@ use Rattle.std.proofs.lemmas.Option.{slice_get-get_or}
 use Rattle.base_data.proofs.model.Options.{slice_get-Contains}
 use Rattle.trees.specs.declared.search_trees.element_span.SettledNode.{SettledNode}
 use Rattle.trees.specs.search_trees.Span.{IsReady}
-use Rattle.trees.proofs.search_trees.SettleLemmas.{none_yet, one_more_taken, still_ready}
+use Rattle.trees.proofs.search_trees.SearchTreeSettleLemmas.{none_yet, one_more_taken, still_ready}
 use Rattle.trees.proofs.search_trees.element_span.settle.Goals as goal
 
 pub loop-o-init : goal.loop-o-init

@@ -1,5 +1,5 @@
 use Rattle.std.proofs.Common.{take}
-use Rattle.trees.proofs.search_trees.SettleLemmas.{AreSettledSoFar}
+use Rattle.trees.proofs.search_trees.SearchTreeSettleLemmas.{AreSettledSoFar}
 use Rattle.trees.proofs.search_trees.element_span.settle.Given as goal
 
 abbrev pub invariant-loop-o : goal.invariant-loop-o

@@ -3,7 +3,7 @@ use Rattle.std.proofs.lemmas.Bool.{false≢true}
 use Rattle.base_data.specs.declared.model.value.Val.TheVariants as vals
 use Rattle.trees.specs.declared.search_trees.tree_node.TreeNode.{TreeNode}
 use Rattle.trees.specs.declared.search_trees.element_span.SettledNode.{SettledNode}
-use Rattle.trees.specs.search_trees.Parts.{node_at, IsAtOrBelow}
+use Rattle.trees.specs.search_trees.NodeParts.{node_at, IsAtOrBelow}
 use Rattle.trees.proofs.search_trees.SpanLemmas.{own_spread, settled_part, left_span, left_over, alone, none_below}
 use Rattle.trees.proofs.search_trees.element_span.with_left.Goals as goal
 

@@ -1,11 +1,11 @@
 use Rattle.std.proofs.Common.{ℕ, List, sym, subst}
 use Rattle.std.specs.Global.{Vec}
 use Rattle.trees.specs.declared.search_trees.element_span.SettledNode.{SettledNode}
-use Rattle.trees.specs.search_trees.Judgement.{IsFirst}
+use Rattle.trees.specs.search_trees.NodeJudgement.{IsFirst}
 use Rattle.trees.specs.search_trees.Span.{IsMarked}
-use Rattle.trees.specs.search_trees.Levels.{Has, AreRising}
-use Rattle.trees.proofs.search_trees.JudgeLemmas.{first_disordered}
-use Rattle.trees.proofs.search_trees.LevelLemmas.{has_level, rising}
+use Rattle.trees.specs.search_trees.TreeLevels.{Has, AreRising}
+use Rattle.trees.proofs.search_trees.SearchTreeJudgeLemmas.{first_disordered}
+use Rattle.trees.proofs.search_trees.SearchTreeLevelLemmas.{has_level, rising}
 use Rattle.trees.proofs.search_trees.judging.first_disordered.Goals as goal
 
 pub by_height-requires-clause-level : goal.by_height-requires-clause-level

@@ -2,7 +2,7 @@ use Rattle.std.proofs.Common.{get_or, sym, ◌∙◌, arith}
 use Rattle.std.proofs.lemmas.Bool.{false≢true}
 use Rattle.std.proofs.lemmas.Option.{slice_get-get_or}
 use Rattle.trees.specs.search_trees.TreeFault.{IsUnbalanced}
-use Rattle.trees.proofs.search_trees.JudgeLemmas.{none_more, none_at_all}
+use Rattle.trees.proofs.search_trees.SearchTreeJudgeLemmas.{none_more, none_at_all}
 use Rattle.trees.proofs.search_trees.judging.first_unbalanced.Goals as goal
 
 pub loop-i-preserved : goal.loop-i-preserved

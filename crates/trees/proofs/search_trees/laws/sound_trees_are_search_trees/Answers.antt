@@ -2,11 +2,11 @@ use Rattle.std.specs.Prelude.{Contains}
 use Rattle.types_spec.specs.types.Shape.{shape}
 use Rattle.types_spec.specs.types.Names.{names_of}
 use Rattle.types_spec.specs.types.Equal.{Equal}
-use Rattle.types_theory.proofs.equality.LawfulLemmas.{reached_lawful}
-use Rattle.types_theory.proofs.equality.ReachedLemmas.{root_listed}
-use Rattle.types_theory.proofs.equality.SoundLemmas.{known_by_hash}
-use Rattle.trees.proofs.search_trees.AgreeLemmas.{tree_too}
-use Rattle.trees.proofs.search_trees.SoundLemmas.{sound_is_ordered, ordered_is_sound}
+use Rattle.types_theory.proofs.equality.EqualityLawfulLemmas.{reached_lawful}
+use Rattle.types_theory.proofs.equality.EqualityReachedLemmas.{root_listed}
+use Rattle.types_theory.proofs.equality.EqualitySoundLemmas.{known_by_hash}
+use Rattle.trees.proofs.search_trees.SearchTreeAgreeLemmas.{tree_too}
+use Rattle.trees.proofs.search_trees.SearchTreeSoundLemmas.{sound_is_ordered, ordered_is_sound}
 use Rattle.trees.proofs.search_trees.laws.sound_trees_are_search_trees.Goals as goal
 
 pub returns : goal.returns

@@ -4,7 +4,7 @@ use Rattle.types_spec.specs.types.Names.{names_of}
 use Rattle.types_spec.specs.types.Equal.{Equal}
 use Rattle.types_theory.proofs.equality.EqualLemmas.{equal_turned, equal_joined}
 use Rattle.types_theory.proofs.equality.TyEquality.{types_same_or_not}
-use Rattle.trees.proofs.search_trees.VerdictLemmas.{one_verdict}
+use Rattle.trees.proofs.search_trees.SearchTreeVerdictLemmas.{one_verdict}
 use Rattle.trees.proofs.search_trees.laws.tree_verdicts_are_one.Goals as goal
 
 pub returns : goal.returns

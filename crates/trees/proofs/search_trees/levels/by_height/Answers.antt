@@ -1,7 +1,7 @@
 use Rattle.std.proofs.Common.{get_or, sym, subst, take}
 use Rattle.std.proofs.lemmas.List.{take_more}
-use Rattle.trees.specs.search_trees.Levels.{AreLevels}
-use Rattle.trees.proofs.search_trees.WriteLemmas.{levels_more}
+use Rattle.trees.specs.search_trees.TreeLevels.{AreLevels}
+use Rattle.trees.proofs.search_trees.SearchTreeWriteLemmas.{levels_more}
 use Rattle.trees.proofs.search_trees.levels.by_height.Goals as goal
 
 pub loop-o-preserved : goal.loop-o-preserved

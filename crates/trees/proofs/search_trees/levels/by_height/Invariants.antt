@@ -1,5 +1,5 @@
 use Rattle.std.proofs.Common.{take}
-use Rattle.trees.specs.search_trees.Levels.{AreLevels}
+use Rattle.trees.specs.search_trees.TreeLevels.{AreLevels}
 use Rattle.trees.proofs.search_trees.levels.by_height.Given as goal
 
 abbrev pub invariant-loop-o : goal.invariant-loop-o

@@ -1,4 +1,4 @@
-use Rattle.trees.proofs.search_trees.WriteLemmas.{room_more}
+use Rattle.trees.proofs.search_trees.SearchTreeWriteLemmas.{room_more}
 use Rattle.trees.proofs.search_trees.levels.make_rooms.Goals as goal
 
 pub loop-room-preserved : goal.loop-room-preserved

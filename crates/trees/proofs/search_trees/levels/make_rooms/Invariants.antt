@@ -1,4 +1,4 @@
-use Rattle.trees.specs.search_trees.Levels.{HasRooms}
+use Rattle.trees.specs.search_trees.TreeLevels.{HasRooms}
 use Rattle.trees.proofs.search_trees.levels.make_rooms.Given as goal
 
 abbrev pub invariant-loop-room : goal.invariant-loop-room

@@ -2,7 +2,7 @@ use Rattle.std.proofs.Common.{ℕ, List, sym, subst, arith}
 use Rattle.std.specs.Prelude.{Contains}
 use Rattle.std.proofs.lemmas.Option.{slice_get_within}
 use Rattle.base_data.proofs.model.Lists.{slice_get-read}
-use Rattle.trees.proofs.search_trees.SettleLemmas.{level_ready, level_settled}
+use Rattle.trees.proofs.search_trees.SearchTreeSettleLemmas.{level_ready, level_settled}
 use Rattle.trees.proofs.search_trees.levels.settle_all.Goals as goal
 
 pub settle-requires-clause-ready : goal.settle-requires-clause-ready

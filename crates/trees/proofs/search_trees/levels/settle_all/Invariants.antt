@@ -1,5 +1,5 @@
 use Rattle.std.proofs.Common.{ℕ, ◌≡◌, ◌<◌, length}
-use Rattle.trees.specs.search_trees.Levels.{Has}
+use Rattle.trees.specs.search_trees.TreeLevels.{Has}
 use Rattle.trees.specs.search_trees.Span.{IsSettled}
 use Rattle.trees.proofs.search_trees.levels.settle_all.Given as goal
 

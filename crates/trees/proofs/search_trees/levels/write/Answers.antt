@@ -1,5 +1,5 @@
 use Rattle.std.proofs.Common.{arith}
-use Rattle.trees.proofs.search_trees.WriteLemmas.{write_is, rooms_written}
+use Rattle.trees.proofs.search_trees.SearchTreeWriteLemmas.{write_is, rooms_written}
 use Rattle.trees.proofs.search_trees.levels.write.Goals as goal
 
 pub returns : goal.returns

@@ -1,6 +1,6 @@
 use Rattle.std.proofs.Common.{◌∷◌, [], refl, arith}
 use Rattle.std.proofs.lemmas.List.{take_more}
-use Rattle.types_build.proofs.builder.PlacedLemmas.{placed_none, placed_next, placed_all}
+use Rattle.types_build.proofs.builder.BuilderPlacedLemmas.{placed_none, placed_next, placed_all}
 use Rattle.types_build.proofs.builder.discovered_types.positions.Goals as goal
 
 pub loop-number-init : goal.loop-number-init

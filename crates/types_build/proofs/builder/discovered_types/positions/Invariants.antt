@@ -1,5 +1,5 @@
 use Rattle.std.proofs.Common.{take}
-use Rattle.types_build.specs.builder.Placed.{AreNumbersPlaced}
+use Rattle.types_build.specs.builder.PlacedTypes.{AreNumbersPlaced}
 use Rattle.types_build.proofs.builder.discovered_types.positions.Given as goal
 
 abbrev pub invariant-loop-number : goal.invariant-loop-number

@@ -1,8 +1,8 @@
 use Rattle.std.proofs.Common.{ℕ, ◌≡◌, ◌∙◌, List, Some, length, get_or, ap, sym, subst, rules}
 use Rattle.std.proofs.lemmas.Option.{slice_get-get_or}
 use Rattle.types_spec.specs.types.Ty.{Ty}
-use Rattle.types_spec.specs.types.Nodes.{type_at}
-use Rattle.types_table.proofs.store.HeldLemmas.{get-map}
+use Rattle.types_spec.specs.types.TypeNodes.{type_at}
+use Rattle.types_table.proofs.store.StoreHeldLemmas.{get-map}
 use Rattle.types_build.specs.builder.Listed.{types_at, IsListing}
 use Rattle.types_build.proofs.builder.ListingLemmas.{next_listed, listed_heads}
 use Rattle.types_build.proofs.builder.listing.go_on.Goals as goal

@@ -1,5 +1,5 @@
 use Rattle.std.proofs.lemmas.Result.{IfOk-weaker}
-use Rattle.types_spec.specs.types.Nodes.{type_at}
+use Rattle.types_spec.specs.types.TypeNodes.{type_at}
 use Rattle.types_build.proofs.builder.ListingLemmas.{placed_is_met}
 use Rattle.types_build.proofs.builder.type_entry.entry_of.Goals as goal
 

@@ -1,10 +1,10 @@
 use Rattle.std.proofs.Common.{◌∙◌, ℕ, List, [], reverse, refl, sym, subst}
 use Rattle.types_spec.specs.declared.types.head.TagOf.{TagOf}
 use Rattle.types_spec.specs.declared.types.head.HeadOf.TheVariants as heads
-use Rattle.types_spec.specs.types.Nodes.{type_at}
+use Rattle.types_spec.specs.types.TypeNodes.{type_at}
 use Rattle.types_spec.specs.types.Head.{head}
 use Rattle.types_build.specs.representation.Tags.{items, with_items, tags_of_entries, IsHeadOf}
-use Rattle.types_build.proofs.representation.GatherLemmas.{none_gathered, nothing_gathered, all_gathered}
+use Rattle.types_build.proofs.representation.RepresentationGatherLemmas.{none_gathered, nothing_gathered, all_gathered}
 use Rattle.types_build.proofs.representation.bracket.bracket_head.Goals as goal
 
 pub returns-then-not-has_bracket-clause-ok : goal.returns-then-not-has_bracket-clause-ok

@@ -3,9 +3,9 @@ use Rattle.std.proofs.lemmas.Result.{on_ok_weaker}
 use Rattle.types_build.specs.declared.representation.bracket.BracketStep.{BracketStep}
 use Rattle.types_spec.specs.declared.types.head.TagOf.{TagOf}
 use Rattle.types_build.specs.representation.Tags.{tags_of_entries}
-use Rattle.types_build.specs.representation.Steps.{AreGathered, steps_work}
-use Rattle.types_build.proofs.representation.FoundLemmas.{locations_there, found_gathered}
-use Rattle.types_build.proofs.representation.GatherLemmas.{settle_gathered, settle_less}
+use Rattle.types_build.specs.representation.RepresentationSteps.{AreGathered, steps_work}
+use Rattle.types_build.proofs.representation.RepresentationFoundLemmas.{locations_there, found_gathered}
+use Rattle.types_build.proofs.representation.RepresentationGatherLemmas.{settle_gathered, settle_less}
 use Rattle.types_build.proofs.representation.bracket.gather.Goals as goal
 
 pub returns-in-Item-clause-gathered : goal.returns-in-Item-clause-gathered

@@ -1,10 +1,10 @@
 use Rattle.std.proofs.Common.{rules, ◌≡◌, ◌∙◌, ◌<◌, List, length, reverse, vec_len, None, sym, subst}
-use Rattle.types_table.proofs.store.HeldLemmas.{Grows-none, Grows-then}
+use Rattle.types_table.proofs.store.StoreHeldLemmas.{Grows-none, Grows-then}
 use Rattle.types_build.specs.declared.representation.bracket.BracketStep.{BracketStep}
 use Rattle.types_build.specs.representation.Tags.{tags_at, tags_of_entries}
-use Rattle.types_build.specs.representation.Steps.{AreGathered, steps_work}
-use Rattle.types_build.proofs.representation.FoundLemmas.{found_kept}
-use Rattle.types_build.proofs.representation.GatherLemmas.{nothing_waits, nothing_left, pushed_first, step_within}
+use Rattle.types_build.specs.representation.RepresentationSteps.{AreGathered, steps_work}
+use Rattle.types_build.proofs.representation.RepresentationFoundLemmas.{found_kept}
+use Rattle.types_build.proofs.representation.RepresentationGatherLemmas.{nothing_waits, nothing_left, pushed_first, step_within}
 use Rattle.types_build.proofs.representation.bracket.gather_all.Goals as goal
 
 pub step-init : goal.step-init

@@ -3,8 +3,8 @@ use Rattle.types_spec.specs.declared.types.head.TagOf.{TagOf}
 use Rattle.types_spec.specs.types.Ty.{Ty}
 use Rattle.types_table.specs.store.Held.{Grows}
 use Rattle.types_build.specs.representation.Tags.{tags_of_entries}
-use Rattle.types_build.specs.representation.Way.{AreKnown}
-use Rattle.types_build.specs.representation.Steps.{AreGathered, steps_work}
+use Rattle.types_build.specs.representation.AbbreviationWay.{AreKnown}
+use Rattle.types_build.specs.representation.RepresentationSteps.{AreGathered, steps_work}
 use Rattle.types_build.proofs.representation.bracket.gather_all.Given as goal
 
 abbrev pub invariant-step : goal.invariant-step

@@ -1,14 +1,14 @@
 use Rattle.std.proofs.Common.{ap, ◌∙◌, ◌<◌, ◌∷◌, arith, List, Some, None, reverse, sym, subst}
 use Rattle.std.proofs.lemmas.Result.{on_ok_weaker}
 use Rattle.types_spec.specs.declared.types.ty.TypeTreeNode.TheVariants as nodes
-use Rattle.types_spec.specs.types.Nodes.{type_at}
+use Rattle.types_spec.specs.types.TypeNodes.{type_at}
 use Rattle.types_spec.specs.types.Head.{head}
 use Rattle.types_build.specs.declared.representation.bracket.BracketStep.{BracketStep}
 use Rattle.types_build.specs.declared.representation.bracket.BracketStep.TheVariants as steps
 use Rattle.types_build.specs.representation.Tags.{tags_of_item, tags_of_entries}
-use Rattle.types_build.specs.representation.Steps.{AreGathered, steps_work}
+use Rattle.types_build.specs.representation.RepresentationSteps.{AreGathered, steps_work}
 use Rattle.types_build.proofs.representation.SpineLemmas.{type_at-node}
-use Rattle.types_build.proofs.representation.GatherLemmas.{gather_tag, gather_none, gather_including, item_less, including_less, pushed_first, tags_of_item-none}
+use Rattle.types_build.proofs.representation.RepresentationGatherLemmas.{gather_tag, gather_none, gather_including, item_less, including_less, pushed_first, tags_of_item-none}
 use Rattle.types_build.proofs.representation.bracket.gather_item.Goals as goal
 
 pub returns-in-Tag-clause-gathered : goal.returns-in-Tag-clause-gathered

@@ -1,14 +1,14 @@
 use Rattle.std.proofs.Common.{◌∙◌, ◌∷◌, None, length, length-append, sym, ap, arith, reverse}
 use Rattle.std.proofs.lemmas.Option.{MatchOption-at_some, MatchOption-at_none}
 use Rattle.std.proofs.lemmas.Result.{on_ok_weaker}
-use Rattle.types_spec.specs.types.Nodes.{type_at}
+use Rattle.types_spec.specs.types.TypeNodes.{type_at}
 use Rattle.types_spec.specs.types.Declarations.{unfolded}
 use Rattle.types_spec.specs.types.Head.{head}
 use Rattle.types_build.specs.declared.representation.bracket.BracketStep.TheVariants as steps
 use Rattle.types_build.specs.representation.Tags.{tags_at}
 use Rattle.types_build.proofs.representation.NearerLemmas.{type_kept, nearer_head, nearer_work_more}
-use Rattle.types_build.proofs.representation.GatherLemmas.{gathered_kept, left_by, include_there, include_next, included_less, next_less, last_less}
-use Rattle.types_build.proofs.representation.SettledLemmas.{settled_at, abbreviation_within, sure_joined}
+use Rattle.types_build.proofs.representation.RepresentationGatherLemmas.{gathered_kept, left_by, include_there, include_next, included_less, next_less, last_less}
+use Rattle.types_build.proofs.representation.RepresentationSettledLemmas.{settled_at, abbreviation_within, sure_joined}
 use Rattle.types_build.proofs.representation.bracket.include.Goals as goal
 
 pub returns-then-is_settled-clause-gathered : goal.returns-then-is_settled-clause-gathered

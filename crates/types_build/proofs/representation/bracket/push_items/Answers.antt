@@ -1,13 +1,13 @@
 use Rattle.std.proofs.Common.{List, refl, sym, ap, subst, arith, reverse}
 use Rattle.types_spec.specs.types.Ty.{Ty}
-use Rattle.types_spec.specs.types.Nodes.{type_at}
+use Rattle.types_spec.specs.types.TypeNodes.{type_at}
 use Rattle.types_spec.specs.types.Head.{head}
 use Rattle.types_build.specs.declared.representation.bracket.BracketStep.{BracketStep}
 use Rattle.types_build.specs.declared.representation.bracket.BracketStep.TheVariants as steps
 use Rattle.types_build.specs.representation.Tags.{items, with_items}
 use Rattle.types_build.specs.representation.Work.{work}
-use Rattle.types_build.specs.representation.Steps.{AreLeft, steps_work}
-use Rattle.types_build.proofs.representation.GatherLemmas.{push_left, pushed_first, last_work, no_item, no_work}
+use Rattle.types_build.specs.representation.RepresentationSteps.{AreLeft, steps_work}
+use Rattle.types_build.proofs.representation.RepresentationGatherLemmas.{push_left, pushed_first, last_work, no_item, no_work}
 use Rattle.types_build.proofs.representation.bracket.push_items.Goals as goal
 
 pub loop-whole-init : goal.loop-whole-init

@@ -2,11 +2,11 @@ use Rattle.std.proofs.Common.{◌≡◌, ◌<◌, ◌+◌, List, length, reverse
 use Rattle.types_spec.specs.declared.types.decl.Decl.{Decl}
 use Rattle.types_spec.specs.declared.types.head.TagOf.{TagOf}
 use Rattle.types_spec.specs.types.Ty.{Ty}
-use Rattle.types_spec.specs.types.Nodes.{type_at}
+use Rattle.types_spec.specs.types.TypeNodes.{type_at}
 use Rattle.types_spec.specs.types.Head.{head}
 use Rattle.types_build.specs.representation.Tags.{items, with_items}
 use Rattle.types_build.specs.representation.Work.{work, written_work}
-use Rattle.types_build.specs.representation.Steps.{AreLeft, steps_work}
+use Rattle.types_build.specs.representation.RepresentationSteps.{AreLeft, steps_work}
 use Rattle.types_build.proofs.representation.bracket.push_items.Given as goal
 
 abbrev pub invariant-loop-whole : goal.invariant-loop-whole

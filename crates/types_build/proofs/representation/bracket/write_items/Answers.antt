@@ -1,8 +1,8 @@
 use Rattle.std.proofs.Common.{◌∙◌, sym, arith, reverse}
 use Rattle.std.proofs.lemmas.Result.{on_ok_weaker}
-use Rattle.types_spec.specs.types.Nodes.{type_at}
+use Rattle.types_spec.specs.types.TypeNodes.{type_at}
 use Rattle.types_build.proofs.representation.WorkLemmas.{work_plain}
-use Rattle.types_build.proofs.representation.GatherLemmas.{include_none, include_items}
+use Rattle.types_build.proofs.representation.RepresentationGatherLemmas.{include_none, include_items}
 use Rattle.types_build.proofs.representation.bracket.write_items.Goals as goal
 
 pub returns-then-not-has_bracket-clause-left : goal.returns-then-not-has_bracket-clause-left

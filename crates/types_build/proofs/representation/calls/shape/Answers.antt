@@ -2,7 +2,7 @@ use Rattle.std.proofs.Common.{ap, ◌∙◌}
 use Rattle.std.proofs.lemmas.Result.{IfOk-weaker}
 use Rattle.std.proofs.lemmas.Option.{get_or_from_slice_get}
 use Rattle.types_spec.specs.types.Ty.{tuple}
-use Rattle.types_spec.specs.types.Nodes.{type_at}
+use Rattle.types_spec.specs.types.TypeNodes.{type_at}
 use Rattle.types_spec.specs.types.Shape.{shape}
 use Rattle.types_build.proofs.representation.TreesLemmas.{shape_found, shape_within}
 use Rattle.types_build.proofs.representation.calls.shape.Goals as goal

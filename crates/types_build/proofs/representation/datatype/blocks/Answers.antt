@@ -3,7 +3,7 @@ use Rattle.std.proofs.lemmas.Option.{slice_get_read}
 use Rattle.types_spec.specs.types.Ty.{Ty}
 use Rattle.types_spec.specs.types.Shape.{block_of}
 use Rattle.types_spec.specs.declared.types.decl.Constructor.{Constructor}
-use Rattle.types_table.proofs.store.HeldLemmas.{Grows-then}
+use Rattle.types_table.proofs.store.StoreHeldLemmas.{Grows-then}
 use Rattle.types_build.specs.representation.Representation.{instance_at, HasBlock}
 use Rattle.types_build.proofs.representation.DatatypeLemmas.{block_more, block_not_more, instance_kept}
 use Rattle.types_build.proofs.representation.datatype.blocks.Goals as goal

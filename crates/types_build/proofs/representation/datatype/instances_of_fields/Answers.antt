@@ -1,7 +1,7 @@
 use Rattle.std.proofs.Common.{refl}
 use Rattle.std.proofs.lemmas.List.{map-append}
 use Rattle.std.proofs.lemmas.Option.{slice_get_read}
-use Rattle.types_build.proofs.representation.LoopLemmas.{one_more}
+use Rattle.types_build.proofs.representation.RepresentationLoopLemmas.{one_more}
 use Rattle.types_build.proofs.representation.DatatypeLemmas.{instance_more}
 use Rattle.types_build.proofs.representation.datatype.instances_of_fields.Goals as goal
 

@@ -2,8 +2,8 @@ use Rattle.std.proofs.Common.{sym, ◌∙◌, refl}
 use Rattle.std.proofs.lemmas.Option.{slice_get_read}
 use Rattle.types_spec.specs.types.Shape.{is_float}
 use Rattle.types_spec.specs.declared.types.decl.Field.{Field}
-use Rattle.types_table.proofs.store.HeldLemmas.{Grows-then}
-use Rattle.types_build.proofs.representation.LoopLemmas.{all_passed, one_failed}
+use Rattle.types_table.proofs.store.StoreHeldLemmas.{Grows-then}
+use Rattle.types_build.proofs.representation.RepresentationLoopLemmas.{all_passed, one_failed}
 use Rattle.types_build.proofs.representation.datatype.is_flat.Goals as goal
 
 pub returns-then-not-branch-clause-ok : goal.returns-then-not-branch-clause-ok

@@ -4,8 +4,8 @@ use Rattle.std.proofs.lemmas.List.{take_all}
 use Rattle.types_spec.specs.declared.types.head.TagOf.{TagOf}
 use Rattle.types_spec.specs.types.Table.{tag_with_part}
 use Rattle.types_build.specs.representation.Tags.{tags_of_entries, with_tags}
-use Rattle.types_build.specs.representation.Found.{part_number, IsLocation}
-use Rattle.types_build.proofs.representation.FoundLemmas.{one_tag_more}
+use Rattle.types_build.specs.representation.FoundHeads.{part_number, IsLocation}
+use Rattle.types_build.proofs.representation.RepresentationFoundLemmas.{one_tag_more}
 use Rattle.types_build.proofs.representation.found_heads.add_found.Goals as goal
 
 pub loop-tag-preserved : goal.loop-tag-preserved

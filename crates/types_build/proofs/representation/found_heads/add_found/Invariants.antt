@@ -1,7 +1,7 @@
 use Rattle.std.proofs.Common.{◌≡◌, map, take}
 use Rattle.types_spec.specs.types.Table.{tag_with_part}
 use Rattle.types_build.specs.representation.Tags.{tags_of_entries, with_tags}
-use Rattle.types_build.specs.representation.Found.{part_number}
+use Rattle.types_build.specs.representation.FoundHeads.{part_number}
 use Rattle.types_build.proofs.representation.found_heads.add_found.Given as goal
 
 abbrev pub invariant-loop-tag : goal.invariant-loop-tag

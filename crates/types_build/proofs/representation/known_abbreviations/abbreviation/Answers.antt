@@ -1,6 +1,6 @@
 use Rattle.std.proofs.Common.{sym}
-use Rattle.types_spec.specs.types.Nodes.{type_at}
-use Rattle.types_build.proofs.representation.KnownLemmas.{abbreviation_found}
+use Rattle.types_spec.specs.types.TypeNodes.{type_at}
+use Rattle.types_build.proofs.representation.RepresentationKnownLemmas.{abbreviation_found}
 use Rattle.types_build.proofs.representation.known_abbreviations.abbreviation.Goals as goal
 
 pub returns-in-Abbreviation : goal.returns-in-Abbreviation

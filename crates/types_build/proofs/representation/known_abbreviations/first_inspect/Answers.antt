@@ -1,6 +1,6 @@
 use Rattle.std.proofs.Common.{None}
 use Rattle.std.proofs.lemmas.Option.{none-some}
-use Rattle.types_build.proofs.representation.KnownLemmas.{known_added}
+use Rattle.types_build.proofs.representation.RepresentationKnownLemmas.{known_added}
 use Rattle.types_build.proofs.representation.known_abbreviations.first_inspect.Goals as goal
 
 pub returns-clause-known : goal.returns-clause-known

@@ -2,9 +2,9 @@ use Rattle.std.proofs.Common.{length, subst, Some}
 use Rattle.std.proofs.lemmas.Option.{slice_get_within, get_or_from_slice_get}
 use Rattle.std.proofs.lemmas.Result.{IfOk-weaker, on_ok_weaker}
 use Rattle.types_spec.specs.types.Ty.{Ty, tuple}
-use Rattle.types_spec.specs.types.Nodes.{type_at}
-use Rattle.types_build.specs.representation.Way.{EachLeads}
-use Rattle.types_build.proofs.representation.KnownLemmas.{some_below, known_added, argument_found}
+use Rattle.types_spec.specs.types.TypeNodes.{type_at}
+use Rattle.types_build.specs.representation.AbbreviationWay.{EachLeads}
+use Rattle.types_build.proofs.representation.RepresentationKnownLemmas.{some_below, known_added, argument_found}
 use Rattle.types_build.proofs.representation.known_abbreviations.inspect.Goals as goal
 
 pub returns-in-Some-clause-known : goal.returns-in-Some-clause-known

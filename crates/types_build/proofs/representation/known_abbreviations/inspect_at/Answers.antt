@@ -1,8 +1,8 @@
 use Rattle.std.proofs.Common.{ℕ, ◌≡◌, ◌<◌, length, List, [], Some, sym, subst, All, arith}
 use Rattle.std.proofs.lemmas.List.Elements.{All-nil, All-cons, All-push, All-pop}
 use Rattle.indexmap.specs.IndexMap.{index_map_len}
-use Rattle.types_table.proofs.store.HeldLemmas.{Grows-none, Grows-then}
-use Rattle.types_build.proofs.representation.KnownLemmas.{some_at, more_at, known_few}
+use Rattle.types_table.proofs.store.StoreHeldLemmas.{Grows-none, Grows-then}
+use Rattle.types_build.proofs.representation.RepresentationKnownLemmas.{some_at, more_at, known_few}
 use Rattle.types_build.proofs.representation.known_abbreviations.inspect_at.Goals as goal
 
 pub returns-in_default-clause-known : goal.returns-in_default-clause-known

@@ -2,7 +2,7 @@ use Rattle.std.proofs.Common.{◌+◌, ◌-◌, ◌*◌, ◌<◌, length, vec_le
 use Rattle.std.specs.Prelude.{All}
 use Rattle.indexmap.specs.IndexMap.{index_map_len}
 use Rattle.types_table.specs.store.Held.{Grows}
-use Rattle.types_build.specs.representation.Way.{AreKnown}
+use Rattle.types_build.specs.representation.AbbreviationWay.{AreKnown}
 use Rattle.types_build.proofs.representation.known_abbreviations.inspect_at.Given as goal
 
 abbrev pub invariant-loop-next : goal.invariant-loop-next

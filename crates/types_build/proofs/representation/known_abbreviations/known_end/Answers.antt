@@ -1,8 +1,8 @@
 use Rattle.std.proofs.Common.{◌<◌, arith}
-use Rattle.types_spec.specs.types.Nodes.{type_at}
-use Rattle.types_build.specs.representation.Way.{EachPasses}
-use Rattle.types_build.proofs.representation.WayLemmas.{leads_more}
-use Rattle.types_build.proofs.representation.KnownLemmas.{some_at}
+use Rattle.types_spec.specs.types.TypeNodes.{type_at}
+use Rattle.types_build.specs.representation.AbbreviationWay.{EachPasses}
+use Rattle.types_build.proofs.representation.RepresentationWayLemmas.{leads_more}
+use Rattle.types_build.proofs.representation.RepresentationKnownLemmas.{some_at}
 use Rattle.types_build.proofs.representation.known_abbreviations.known_end.Goals as goal
 
 pub loop-next-preserved : goal.loop-next-preserved

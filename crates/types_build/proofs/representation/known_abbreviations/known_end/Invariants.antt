@@ -1,6 +1,6 @@
 use Rattle.std.proofs.Common.{ℕ, ◌<◌, length, Option}
-use Rattle.types_spec.specs.types.Nodes.{type_at}
-use Rattle.types_build.specs.representation.Way.{AreKnown, EachLeads}
+use Rattle.types_spec.specs.types.TypeNodes.{type_at}
+use Rattle.types_build.specs.representation.AbbreviationWay.{AreKnown, EachLeads}
 use Rattle.types_build.proofs.representation.known_abbreviations.known_end.Given as goal
 
 abbrev pub invariant-loop-next : goal.invariant-loop-next

@@ -1,6 +1,6 @@
 use Rattle.std.proofs.lemmas.Result.{IfOk-weaker}
-use Rattle.types_spec.specs.types.Nodes.{type_at}
-use Rattle.types_build.proofs.representation.KnownLemmas.{part_passes}
+use Rattle.types_spec.specs.types.TypeNodes.{type_at}
+use Rattle.types_build.proofs.representation.RepresentationKnownLemmas.{part_passes}
 use Rattle.types_build.proofs.representation.known_abbreviations.known_part.Goals as goal
 
 pub returns-in-Some-known_argument-clause-passes : goal.returns-in-Some-known_argument-clause-passes

@@ -1,6 +1,6 @@
 use Rattle.std.proofs.Common.{◌∙◌, ap, ℕ, List}
 use Rattle.std.specs.Prelude.{slice_get}
-use Rattle.types_build.proofs.representation.KnownLemmas.{some_less}
+use Rattle.types_build.proofs.representation.RepresentationKnownLemmas.{some_less}
 use Rattle.types_build.proofs.representation.known_abbreviations.part.Goals as goal
 
 pub returns-clause-below : goal.returns-clause-below

@@ -1,7 +1,7 @@
 use Rattle.std.proofs.Common.{ap, None}
-use Rattle.types_spec.specs.types.Nodes.{type_at}
+use Rattle.types_spec.specs.types.TypeNodes.{type_at}
 use Rattle.types_spec.specs.types.Declarations.{abbreviated}
-use Rattle.types_build.proofs.representation.WayLemmas.{bare_next}
+use Rattle.types_build.proofs.representation.RepresentationWayLemmas.{bare_next}
 use Rattle.types_build.proofs.representation.replaced.bare_unfolded.Goals as goal
 
 pub returns-clause-ok : goal.returns-clause-ok

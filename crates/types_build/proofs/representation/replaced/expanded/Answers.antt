@@ -1,8 +1,8 @@
 use Rattle.std.proofs.Common.{◌∙◌, refl, None}
 use Rattle.std.proofs.lemmas.Option.{MatchOption-at_some}
-use Rattle.types_spec.specs.types.Nodes.{type_at}
-use Rattle.types_table.proofs.store.HeldLemmas.{Grows-none, Grows-then}
-use Rattle.types_build.proofs.representation.ReplacedLemmas.{comes_to_itself}
+use Rattle.types_spec.specs.types.TypeNodes.{type_at}
+use Rattle.types_table.proofs.store.StoreHeldLemmas.{Grows-none, Grows-then}
+use Rattle.types_build.proofs.representation.RepresentationReplacedLemmas.{comes_to_itself}
 use Rattle.types_build.proofs.representation.NearerLemmas.{nearer_head, nearer_work, nearer_comes}
 use Rattle.types_build.proofs.representation.replaced.expanded.Goals as goal
 

@@ -1,9 +1,9 @@
 use Rattle.std.proofs.Common.{◌≡◌, ◌<◌, length, None}
-use Rattle.types_spec.specs.types.Nodes.{type_at}
+use Rattle.types_spec.specs.types.TypeNodes.{type_at}
 use Rattle.types_spec.specs.types.Head.{head}
 use Rattle.types_table.specs.store.Held.{Grows}
-use Rattle.types_build.specs.representation.Way.{AreKnown}
-use Rattle.types_build.proofs.representation.ReplacedLemmas.{ComesTo}
+use Rattle.types_build.specs.representation.AbbreviationWay.{AreKnown}
+use Rattle.types_build.proofs.representation.RepresentationReplacedLemmas.{ComesTo}
 use Rattle.types_build.specs.representation.Work.{work}
 use Rattle.types_build.proofs.representation.replaced.expanded.Given as goal
 

@@ -1,10 +1,10 @@
 use Rattle.std.proofs.Common.{◌≡◌, ◌∙◌, length, length-append, sym, ap, arith}
 use Rattle.std.proofs.lemmas.List.{nil_from_length}
 use Rattle.std.proofs.lemmas.Result.{IfOk-weaker}
-use Rattle.types_table.proofs.store.HeldLemmas.{Grows-then}
-use Rattle.types_spec.specs.types.Nodes.{type_at}
+use Rattle.types_table.proofs.store.StoreHeldLemmas.{Grows-then}
+use Rattle.types_spec.specs.types.TypeNodes.{type_at}
 use Rattle.types_build.proofs.representation.NearerLemmas.{later_is, once_is}
-use Rattle.types_build.proofs.representation.WayLemmas.{is_bare}
+use Rattle.types_build.proofs.representation.RepresentationWayLemmas.{is_bare}
 use Rattle.types_build.proofs.representation.replaced.nearer_from.Goals as goal
 
 pub returns-in_default-clause-ok : goal.returns-in_default-clause-ok

@@ -1,8 +1,8 @@
 use Rattle.std.proofs.Common.{◌<◌}
 use Rattle.std.proofs.lemmas.Result.{IfOk-weaker}
-use Rattle.types_spec.specs.types.Nodes.{type_at}
-use Rattle.types_build.specs.representation.Way.{EachPasses}
-use Rattle.types_build.proofs.representation.KnownLemmas.{some_at}
+use Rattle.types_spec.specs.types.TypeNodes.{type_at}
+use Rattle.types_build.specs.representation.AbbreviationWay.{EachPasses}
+use Rattle.types_build.proofs.representation.RepresentationKnownLemmas.{some_at}
 use Rattle.types_build.proofs.representation.NearerLemmas.{once_is, passed_is}
 use Rattle.types_build.proofs.representation.replaced.passed.Goals as goal
 

@@ -2,7 +2,7 @@ use Rattle.std.proofs.Common.{subst}
 use Rattle.types_spec.specs.declared.types.head.HeadOf.{HeadOf}
 use Rattle.types_spec.specs.types.Ty.{Ty}
 use Rattle.types_spec.specs.types.Head.{head}
-use Rattle.types_spec.specs.types.Nodes.{type_at}
+use Rattle.types_spec.specs.types.TypeNodes.{type_at}
 use Rattle.types_spec.specs.types.Shape.{head_shape}
 use Rattle.types_build.specs.representation.Representation.{IsShapeAt}
 use Rattle.types_build.proofs.representation.RepresentationLemmas.{head_found, head_within, head_kept}

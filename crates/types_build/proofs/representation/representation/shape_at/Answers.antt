@@ -1,5 +1,5 @@
 use Rattle.std.proofs.Common.{map, refl}
-use Rattle.types_spec.specs.types.Nodes.{type_at}
+use Rattle.types_spec.specs.types.TypeNodes.{type_at}
 use Rattle.types_build.proofs.representation.RepresentationLemmas.{product_at, poly_at}
 use Rattle.types_build.proofs.representation.representation.shape_at.Goals as goal
 

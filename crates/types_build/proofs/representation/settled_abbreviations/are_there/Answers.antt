@@ -1,8 +1,8 @@
 use Rattle.std.proofs.Common.{ℕ, List, sym, subst}
 use Rattle.std.proofs.lemmas.List.Elements.{All-push}
-use Rattle.types_spec.specs.types.Nodes.{type_at}
+use Rattle.types_spec.specs.types.TypeNodes.{type_at}
 use Rattle.types_build.specs.representation.Tags.{tags_at, tags_of_entries}
-use Rattle.types_build.specs.representation.Steps.{AreEachThere, EachBringsNone}
+use Rattle.types_build.specs.representation.RepresentationSteps.{AreEachThere, EachBringsNone}
 use Rattle.types_build.proofs.representation.settled_abbreviations.are_there.Goals as goal
 
 pub next-preserved : goal.next-preserved

@@ -1,7 +1,7 @@
 use Rattle.std.proofs.Common.{◌<◌, length, All}
-use Rattle.types_spec.specs.types.Nodes.{type_at}
+use Rattle.types_spec.specs.types.TypeNodes.{type_at}
 use Rattle.types_build.specs.representation.Tags.{tags_at, tags_of_entries}
-use Rattle.types_build.specs.representation.Steps.{AreSettled, AreEachThere, EachBringsNone, numbers_work}
+use Rattle.types_build.specs.representation.RepresentationSteps.{AreSettled, AreEachThere, EachBringsNone, numbers_work}
 use Rattle.types_build.proofs.representation.settled_abbreviations.are_there.Given as goal
 
 abbrev pub invariant-next : goal.invariant-next

@@ -1,5 +1,5 @@
 use Rattle.std.proofs.Common.{sym, ◌∙◌}
-use Rattle.types_build.proofs.representation.SettledLemmas.{settled_among}
+use Rattle.types_build.proofs.representation.RepresentationSettledLemmas.{settled_among}
 use Rattle.types_build.proofs.representation.settled_abbreviations.is_settled.Goals as goal
 
 pub returns-in-Some : goal.returns-in-Some

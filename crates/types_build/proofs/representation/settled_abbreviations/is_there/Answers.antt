@@ -1,8 +1,8 @@
 use Rattle.std.proofs.Common.{◌∙◌, sym, arith, None}
 use Rattle.std.proofs.lemmas.Result.{IfOk-weaker}
-use Rattle.types_spec.specs.types.Nodes.{type_at}
+use Rattle.types_spec.specs.types.TypeNodes.{type_at}
 use Rattle.types_build.specs.representation.Tags.{tags_at, tags_of_entries}
-use Rattle.types_build.proofs.representation.SettledLemmas.{settled_each, settled_among, each_led, led_work}
+use Rattle.types_build.proofs.representation.RepresentationSettledLemmas.{settled_each, settled_among, each_led, led_work}
 use Rattle.types_build.proofs.representation.settled_abbreviations.is_there.Goals as goal
 
 pub returns-in-Some-clause-there : goal.returns-in-Some-clause-there

@@ -1,16 +1,16 @@
 use Rattle.std.proofs.Common.{sym, ◌∙◌, ℕ, ap, subst, Some, arith}
 use Rattle.std.proofs.lemmas.List.Elements.{All-pop}
 use Rattle.types_spec.specs.declared.types.ty.TypeTreeNode.TheVariants as nodes
-use Rattle.types_spec.specs.types.Nodes.{type_at}
+use Rattle.types_spec.specs.types.TypeNodes.{type_at}
 use Rattle.types_spec.specs.types.Head.{bare_tag, carrying_tag}
 use Rattle.types_spec.specs.types.Ty.{instance}
 use Rattle.types_build.specs.representation.Tags.{tags_at, tags_of_entries}
-use Rattle.types_build.specs.representation.Steps.{EachBringsNone, EachItemBringsNone, item_work}
+use Rattle.types_build.specs.representation.RepresentationSteps.{EachBringsNone, EachItemBringsNone, item_work}
 use Rattle.types_build.specs.representation.Work.{work}
 use Rattle.types_build.proofs.representation.SpineLemmas.{type_at-node}
 use Rattle.types_build.proofs.representation.EntryLemmas.{lookup-has_name}
-use Rattle.types_build.proofs.representation.GatherLemmas.{has_tag-named}
-use Rattle.types_build.proofs.representation.SettledLemmas.{tag_there, numbers_push}
+use Rattle.types_build.proofs.representation.RepresentationGatherLemmas.{has_tag-named}
+use Rattle.types_build.proofs.representation.RepresentationSettledLemmas.{tag_there, numbers_push}
 use Rattle.types_build.proofs.representation.settled_abbreviations.item_is_there.Goals as goal
 
 pub returns-in-Tag-clause-there : goal.returns-in-Tag-clause-there

@@ -1,10 +1,10 @@
 use Rattle.std.proofs.Common.{◌∙◌, sym, arith}
-use Rattle.types_spec.specs.types.Nodes.{type_at}
+use Rattle.types_spec.specs.types.TypeNodes.{type_at}
 use Rattle.types_build.specs.representation.Tags.{tags_at, tags_of_entries}
 use Rattle.types_build.specs.representation.Work.{work}
 use Rattle.types_build.proofs.representation.WorkLemmas.{written_least}
-use Rattle.types_build.proofs.representation.GatherLemmas.{last_work}
-use Rattle.types_build.proofs.representation.SettledLemmas.{has_same, one_item, no_items, each_bracket}
+use Rattle.types_build.proofs.representation.RepresentationGatherLemmas.{last_work}
+use Rattle.types_build.proofs.representation.RepresentationSettledLemmas.{has_same, one_item, no_items, each_bracket}
 use Rattle.types_build.proofs.representation.settled_abbreviations.items_are_there.Goals as goal
 
 pub whole-preserved : goal.whole-preserved

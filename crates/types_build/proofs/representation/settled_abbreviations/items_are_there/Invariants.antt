@@ -1,10 +1,10 @@
 use Rattle.std.proofs.Common.{◌≡◌, ◌<◌, ◌≤◌, ◌+◌, List, length, All}
 use Rattle.types_spec.specs.declared.types.decl.Decl.{Decl}
-use Rattle.types_spec.specs.types.Nodes.{type_at}
+use Rattle.types_spec.specs.types.TypeNodes.{type_at}
 use Rattle.types_build.specs.representation.Tags.{has_bracket, tags_at, tags_of_entries}
 use Rattle.types_build.specs.representation.Work.{work, written_work}
-use Rattle.types_build.specs.representation.Steps.{AreEachThere, numbers_work}
-use Rattle.types_build.proofs.representation.SettledLemmas.{EachWrittenThere}
+use Rattle.types_build.specs.representation.RepresentationSteps.{AreEachThere, numbers_work}
+use Rattle.types_build.proofs.representation.RepresentationSettledLemmas.{EachWrittenThere}
 use Rattle.types_build.proofs.representation.settled_abbreviations.items_are_there.Given as goal
 
 abbrev pub invariant-whole : goal.invariant-whole

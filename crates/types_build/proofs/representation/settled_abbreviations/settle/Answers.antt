@@ -2,9 +2,9 @@ use Rattle.std.proofs.Common.{ℕ, ◌≡◌, ◌∙◌, List, None, length, ari
 use Rattle.std.proofs.lemmas.List.{nil_from_length}
 use Rattle.std.proofs.lemmas.Result.{on_ok_weaker}
 use Rattle.types_build.specs.representation.Tags.{tags_at, tags_of_entries}
-use Rattle.types_build.specs.representation.Steps.{AreSettled}
-use Rattle.types_build.proofs.representation.WayLemmas.{is_bare}
-use Rattle.types_build.proofs.representation.SettledLemmas.{settled_added}
+use Rattle.types_build.specs.representation.RepresentationSteps.{AreSettled}
+use Rattle.types_build.proofs.representation.RepresentationWayLemmas.{is_bare}
+use Rattle.types_build.proofs.representation.RepresentationSettledLemmas.{settled_added}
 use Rattle.types_build.proofs.representation.settled_abbreviations.settle.Goals as goal
 
 pub returns-then-is_empty-clause-settled : goal.returns-then-is_empty-clause-settled

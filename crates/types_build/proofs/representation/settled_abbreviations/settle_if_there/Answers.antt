@@ -2,8 +2,8 @@ use Rattle.std.proofs.Common.{ℕ, List, sym, subst}
 use Rattle.std.proofs.lemmas.Option.{get_or_from_slice_get}
 use Rattle.types_spec.specs.types.Ty.{tuple}
 use Rattle.types_build.specs.representation.Tags.{tags_at, tags_of_entries}
-use Rattle.types_build.specs.representation.Steps.{AreSettled, EachBringsNone}
-use Rattle.types_build.proofs.representation.SettledLemmas.{settled_added, settles}
+use Rattle.types_build.specs.representation.RepresentationSteps.{AreSettled, EachBringsNone}
+use Rattle.types_build.proofs.representation.RepresentationSettledLemmas.{settled_added, settles}
 use Rattle.types_build.proofs.representation.settled_abbreviations.settle_if_there.Goals as goal
 
 pub returns-in_ok-insert-clause-settled : goal.returns-in_ok-insert-clause-settled

@@ -1,6 +1,6 @@
 use Rattle.std.proofs.Common.{◌≡◌, ◌<◌, length}
 use Rattle.types_spec.specs.types.Ty.{name_of}
-use Rattle.types_spec.specs.types.Nodes.{type_at}
+use Rattle.types_spec.specs.types.TypeNodes.{type_at}
 use Rattle.types_build.proofs.representation.spine.name.Given as goal
 
 abbrev pub invariant-loop-whole : goal.invariant-loop-whole

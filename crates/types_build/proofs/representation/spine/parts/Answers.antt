@@ -2,7 +2,7 @@ use Rattle.std.proofs.Common.{sym, ap, ◌∙◌, ◌<◌, length, reverse, map,
 use Rattle.std.proofs.lemmas.List.Elements.{All-push}
 use Rattle.std.proofs.Common.{arith}
 use Rattle.types_spec.specs.types.Ty.{parts}
-use Rattle.types_spec.specs.types.Nodes.{type_at}
+use Rattle.types_spec.specs.types.TypeNodes.{type_at}
 use Rattle.types_spec.specs.declared.types.ty.TypeTreeNode.TheVariants as nodes
 use Rattle.types_build.proofs.representation.SpineLemmas.{type_at-node, parts-step, parts-end, All-reverse}
 use Rattle.types_build.proofs.representation.spine.parts.Goals as goal

@@ -1,5 +1,5 @@
 use Rattle.std.proofs.Common.{sym, ap, ◌∙◌}
-use Rattle.types_build.specs.representation.Plain.{root_of}
+use Rattle.types_build.specs.representation.PlainHeads.{root_of}
 use Rattle.types_build.proofs.representation.SpineLemmas.{type_at-node, root-end}
 use Rattle.types_build.proofs.representation.spine.root.Goals as goal
 

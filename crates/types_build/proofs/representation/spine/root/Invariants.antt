@@ -1,6 +1,6 @@
 use Rattle.std.proofs.Common.{◌≡◌, ◌<◌, ◌≤◌, length}
-use Rattle.types_spec.specs.types.Nodes.{type_at}
-use Rattle.types_build.specs.representation.Plain.{root_of}
+use Rattle.types_spec.specs.types.TypeNodes.{type_at}
+use Rattle.types_build.specs.representation.PlainHeads.{root_of}
 use Rattle.types_build.proofs.representation.spine.root.Given as goal
 
 abbrev pub invariant-loop-whole : goal.invariant-loop-whole

@@ -1,9 +1,9 @@
 use Rattle.std.proofs.Common.{IfOk, map, sym, subst}
 use Rattle.types_spec.specs.types.Ty.{Ty, named}
-use Rattle.types_spec.specs.types.Nodes.{type_at}
+use Rattle.types_spec.specs.types.TypeNodes.{type_at}
 use Rattle.types_spec.specs.types.Predeclared.{applied}
 use Rattle.types_table.specs.store.Held.{Holds}
-use Rattle.types_build.proofs.representation.SumLemmas.{argument_held, argument_past}
+use Rattle.types_build.proofs.representation.RepresentationSumLemmas.{argument_held, argument_past}
 use Rattle.types_build.proofs.representation.sum.argument.Goals as goal
 
 pub returns-then-i-parts-clause-ok : goal.returns-then-i-parts-clause-ok

@@ -1,5 +1,5 @@
-use Rattle.types_table.proofs.store.HeldLemmas.{Grows-then}
-use Rattle.types_build.proofs.representation.SumLemmas.{parts_below, next_block}
+use Rattle.types_table.proofs.store.StoreHeldLemmas.{Grows-then}
+use Rattle.types_build.proofs.representation.RepresentationSumLemmas.{parts_below, next_block}
 use Rattle.types_build.proofs.representation.sum.blocks.Goals as goal
 
 pub members-requires : goal.members-requires

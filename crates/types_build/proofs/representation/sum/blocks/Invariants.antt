@@ -1,5 +1,5 @@
 use Rattle.std.proofs.Common.{map, take}
-use Rattle.types_spec.specs.types.Nodes.{type_at}
+use Rattle.types_spec.specs.types.TypeNodes.{type_at}
 use Rattle.types_spec.specs.types.Predeclared.{constr_of}
 use Rattle.types_spec.specs.types.PredeclaredCode.{block_row}
 use Rattle.types_table.specs.store.Held.{Grows}

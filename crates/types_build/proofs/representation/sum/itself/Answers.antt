@@ -1,7 +1,7 @@
 use Rattle.std.proofs.Common.{◌≡◌, length, arith}
 use Rattle.std.proofs.lemmas.Option.{slice_get_within, slice_get-get_or}
-use Rattle.types_table.proofs.store.HeldLemmas.{Grows-held, Holds-grows}
-use Rattle.types_build.proofs.representation.SumLemmas.{part_below, itself_more, itself_whole}
+use Rattle.types_table.proofs.store.StoreHeldLemmas.{Grows-held, Holds-grows}
+use Rattle.types_build.proofs.representation.RepresentationSumLemmas.{part_below, itself_more, itself_whole}
 use Rattle.types_build.proofs.representation.sum.itself.Goals as goal
 
 pub loop-part-init : goal.loop-part-init

@@ -1,7 +1,7 @@
 use Rattle.std.proofs.Common.{◌≡◌, map, take, Some}
 use Rattle.std.specs.Prelude.{slice_get}
 use Rattle.types_spec.specs.types.Ty.{named}
-use Rattle.types_spec.specs.types.Nodes.{type_at}
+use Rattle.types_spec.specs.types.TypeNodes.{type_at}
 use Rattle.types_spec.specs.types.Predeclared.{applied}
 use Rattle.types_table.specs.store.Held.{Grows}
 use Rattle.types_build.proofs.representation.sum.itself.Given as goal

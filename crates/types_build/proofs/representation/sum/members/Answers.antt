@@ -1,4 +1,4 @@
-use Rattle.types_build.proofs.representation.SumLemmas.{parts_below, next_member}
+use Rattle.types_build.proofs.representation.RepresentationSumLemmas.{parts_below, next_member}
 use Rattle.types_build.proofs.representation.sum.members.Goals as goal
 
 pub member-requires : goal.member-requires

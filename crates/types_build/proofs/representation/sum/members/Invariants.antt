@@ -1,5 +1,5 @@
 use Rattle.std.proofs.Common.{map, take}
-use Rattle.types_spec.specs.types.Nodes.{type_at}
+use Rattle.types_spec.specs.types.TypeNodes.{type_at}
 use Rattle.types_spec.specs.types.Predeclared.{member_type}
 use Rattle.types_table.specs.store.Instance.{HoldsEach}
 use Rattle.types_build.proofs.representation.sum.members.Given as goal

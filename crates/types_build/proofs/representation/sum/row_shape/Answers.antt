@@ -1,4 +1,4 @@
-use Rattle.types_build.proofs.representation.SumLemmas.{wrong_parts, right_parts}
+use Rattle.types_build.proofs.representation.RepresentationSumLemmas.{wrong_parts, right_parts}
 use Rattle.types_build.proofs.representation.sum.row_shape.Goals as goal
 
 pub returns-then-row-parts-clause-ok : goal.returns-then-row-parts-clause-ok

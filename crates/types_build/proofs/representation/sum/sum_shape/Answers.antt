@@ -1,6 +1,6 @@
 use Rattle.std.proofs.Common.{ℕ, List, Option, Some, IfOk, map, subst, refl}
 use Rattle.types_spec.specs.declared.types.shape.ShapeOf.TheVariants as shapes
-use Rattle.types_spec.specs.types.Nodes.{type_at}
+use Rattle.types_spec.specs.types.TypeNodes.{type_at}
 use Rattle.types_spec.specs.types.Predeclared.{Sum, name_at, sum_shape}
 use Rattle.types_spec.specs.types.PredeclaredCode.{sum_row_of}
 use Rattle.types_build.specs.representation.Representation.{IsShapeAt}

@@ -1,5 +1,5 @@
 use Rattle.types_parse.specs.parse.TypeCode.{whole_code}
-use Rattle.types_parse.proofs.parse.WholeLemmas.{whole_found}
+use Rattle.types_parse.proofs.parse.ParserWholeLemmas.{whole_found}
 use Rattle.types_parse.proofs.parse.FileEnd.{readable_closed}
 use Rattle.types_parse.proofs.parse.file_end.closed_in_type.Goals as goal
 

@@ -1,5 +1,5 @@
 use Rattle.types_parse.specs.parse.TypeCode.{begin_code}
-use Rattle.types_parse.proofs.parse.StepLemmas.{steps_in_type}
+use Rattle.types_parse.proofs.parse.ParserStepLemmas.{steps_in_type}
 use Rattle.types_parse.proofs.parse.in_file.begin_type.Goals as goal
 
 pub returns-in-Ok : goal.returns-in-Ok

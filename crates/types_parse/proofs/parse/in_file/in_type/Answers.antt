@@ -1,7 +1,7 @@
 use Rattle.std.proofs.Common.{subst}
 use Rattle.types_parse.specs.parse.TypeCode.{step_code, StepIs}
 use Rattle.types_parse.specs.parse.FileCode.{is_argument}
-use Rattle.types_parse.proofs.parse.StepLemmas.{steps_in_type, readable_written}
+use Rattle.types_parse.proofs.parse.ParserStepLemmas.{steps_in_type, readable_written}
 use Rattle.types_parse.proofs.parse.in_file.in_type.Goals as goal
 
 pub after_type_step-requires : goal.after_type_step-requires

@@ -3,7 +3,7 @@ use Rattle.std.proofs.lemmas.Result.{on_ok_weaker}
 use Rattle.types_spec.specs.declared.types.decl.Field.{Field}
 use Rattle.types_spec.specs.declared.types.decl.Constructor.{Constructor}
 use Rattle.types_resolve.specs.occurrences.CountedFile.{along, field_count, in_field, names_of_fields, constructor_count}
-use Rattle.types_resolve.specs.occurrences.Found.{AddsFound}
+use Rattle.types_resolve.specs.occurrences.FoundOccurrences.{AddsFound}
 use Rattle.types_resolve.specs.occurrences.Bodies.{records_of, carrying_of, occurrences_of, constructor_names}
 use Rattle.types_resolve.proofs.occurrences.BodyLemmas.{adds_abbreviation, adds_record, adds_variant}
 use Rattle.types_resolve.proofs.occurrences.bodies.write_body.Goals as goal

@@ -1,9 +1,9 @@
 use Rattle.std.proofs.Common.{[], List, ℕ, subst}
 use Rattle.std.proofs.lemmas.Result.{on_ok_weaker}
 use Rattle.types_resolve.specs.occurrences.CountedFile.{record_in_arguments, in_arguments}
-use Rattle.types_resolve.specs.occurrences.Found.{AddsFound}
+use Rattle.types_resolve.specs.occurrences.FoundOccurrences.{AddsFound}
 use Rattle.types_resolve.specs.occurrences.Bodies.{records_of, carrying_of, occurrences_of}
-use Rattle.types_resolve.proofs.occurrences.FoundLemmas.{carrying_then}
+use Rattle.types_resolve.proofs.occurrences.OccurrenceFoundLemmas.{carrying_then}
 use Rattle.types_resolve.proofs.occurrences.bodies.write_constructor.Goals as goal
 
 pub returns-clause-adds : goal.returns-clause-adds

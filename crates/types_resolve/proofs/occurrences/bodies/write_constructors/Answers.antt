@@ -1,10 +1,10 @@
 use Rattle.std.proofs.Common.{◌∙◌, ◌++◌, ◌∷◌, List, [], ap, subst}
 use Rattle.types_spec.specs.types.Occurrence.{Placed}
 use Rattle.types_resolve.specs.occurrences.CountedFile.{along, constructor_count}
-use Rattle.types_resolve.specs.occurrences.Found.{AddsFound}
+use Rattle.types_resolve.specs.occurrences.FoundOccurrences.{AddsFound}
 use Rattle.types_resolve.specs.occurrences.Bodies.{name_of_constructor, records_of, carrying_of, occurrences_of}
-use Rattle.types_resolve.proofs.occurrences.FoundLemmas.{then_row}
-use Rattle.types_resolve.proofs.occurrences.LoopLemmas.{Follows-step, Follows-end, RowFollows-step, RowFollows-end}
+use Rattle.types_resolve.proofs.occurrences.OccurrenceFoundLemmas.{then_row}
+use Rattle.types_resolve.proofs.occurrences.OccurrenceLoopLemmas.{Follows-step, Follows-end, RowFollows-step, RowFollows-end}
 use Rattle.types_resolve.proofs.occurrences.bodies.write_constructors.Goals as goal
 
 pub loop-constructor-preserved : goal.loop-constructor-preserved

@@ -1,7 +1,7 @@
 use Rattle.std.proofs.Common.{drop}
 use Rattle.types_resolve.specs.occurrences.CountedFile.{constructor_count}
 use Rattle.types_resolve.specs.occurrences.Bodies.{name_of_constructor, records_of, carrying_of, occurrences_of}
-use Rattle.types_resolve.proofs.occurrences.LoopLemmas.{Follows, RowFollows}
+use Rattle.types_resolve.proofs.occurrences.OccurrenceLoopLemmas.{Follows, RowFollows}
 use Rattle.types_resolve.proofs.occurrences.bodies.write_constructors.Given as goal
 
 abbrev pub invariant-loop-constructor : goal.invariant-loop-constructor

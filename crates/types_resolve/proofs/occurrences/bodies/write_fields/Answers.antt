@@ -4,9 +4,9 @@ use Rattle.types_spec.specs.declared.types.decl.Field.{Field}
 use Rattle.types_spec.specs.types.Occurrence.{Placed}
 use Rattle.types_resolve.specs.occurrences.Counted.{in_type}
 use Rattle.types_resolve.specs.occurrences.CountedFile.{along, field_count, in_field, placed, type_count}
-use Rattle.types_resolve.specs.occurrences.Found.{AddsFound}
-use Rattle.types_resolve.proofs.occurrences.FoundLemmas.{then_row}
-use Rattle.types_resolve.proofs.occurrences.LoopLemmas.{Follows-step, Follows-plain, RowFollows-step, RowFollows-end}
+use Rattle.types_resolve.specs.occurrences.FoundOccurrences.{AddsFound}
+use Rattle.types_resolve.proofs.occurrences.OccurrenceFoundLemmas.{then_row}
+use Rattle.types_resolve.proofs.occurrences.OccurrenceLoopLemmas.{Follows-step, Follows-plain, RowFollows-step, RowFollows-end}
 use Rattle.types_resolve.proofs.occurrences.bodies.write_fields.Goals as goal
 
 pub loop-field-preserved : goal.loop-field-preserved

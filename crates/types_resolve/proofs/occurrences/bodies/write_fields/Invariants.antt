@@ -1,7 +1,7 @@
 use Rattle.std.proofs.Common.{[], ◌∷◌, drop}
 use Rattle.types_spec.specs.declared.types.decl.Field.{Field}
 use Rattle.types_resolve.specs.occurrences.CountedFile.{field_count, in_field, placed}
-use Rattle.types_resolve.proofs.occurrences.LoopLemmas.{Follows, RowFollows}
+use Rattle.types_resolve.proofs.occurrences.OccurrenceLoopLemmas.{Follows, RowFollows}
 use Rattle.types_resolve.proofs.occurrences.bodies.write_fields.Given as goal
 
 abbrev pub invariant-loop-field : goal.invariant-loop-field

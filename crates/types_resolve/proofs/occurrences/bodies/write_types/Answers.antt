@@ -1,7 +1,7 @@
 use Rattle.std.proofs.Common.{[], false}
 use Rattle.types_resolve.specs.occurrences.Counted.{in_type}
 use Rattle.types_resolve.specs.occurrences.CountedFile.{type_count}
-use Rattle.types_resolve.proofs.occurrences.LoopLemmas.{Follows-step, Follows-plain}
+use Rattle.types_resolve.proofs.occurrences.OccurrenceLoopLemmas.{Follows-step, Follows-plain}
 use Rattle.types_resolve.proofs.occurrences.bodies.write_types.Goals as goal
 
 pub loop-ty-preserved : goal.loop-ty-preserved

@@ -1,7 +1,7 @@
 use Rattle.std.proofs.Common.{[], drop, false}
 use Rattle.types_resolve.specs.occurrences.Counted.{in_type}
 use Rattle.types_resolve.specs.occurrences.CountedFile.{type_count}
-use Rattle.types_resolve.proofs.occurrences.LoopLemmas.{Follows}
+use Rattle.types_resolve.proofs.occurrences.OccurrenceLoopLemmas.{Follows}
 use Rattle.types_resolve.proofs.occurrences.bodies.write_types.Given as goal
 
 abbrev pub invariant-loop-ty : goal.invariant-loop-ty

@@ -1,4 +1,4 @@
-use Rattle.types_spec.specs.types.Nodes.{types_of}
+use Rattle.types_spec.specs.types.TypeNodes.{types_of}
 use Rattle.types_resolve.specs.occurrences.Facts.{AreFacts}
 use Rattle.types_resolve.proofs.occurrences.fact.all_facts.Given as goal
 

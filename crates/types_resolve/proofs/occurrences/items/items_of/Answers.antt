@@ -1,14 +1,14 @@
 use Rattle.std.proofs.Common.{List, ◌≡◌, ◌<◌, ◌∙◌, ◌+◌, length, drop, sym, ap, arith}
 use Rattle.std.specs.Prelude.{slice_index}
 use Rattle.std.proofs.lemmas.Result.{IfOk-weaker}
-use Rattle.types_spec.specs.types.Nodes.{types_of, type_at}
+use Rattle.types_spec.specs.types.TypeNodes.{types_of, type_at}
 use Rattle.types_resolve.specs.occurrences.Counted.{items_in}
-use Rattle.types_resolve.specs.declared.scope.brackets.BracketItem.{BracketItem}
+use Rattle.types_resolve.specs.declared.scope.type_brackets.BracketItem.{BracketItem}
 use Rattle.types_resolve.specs.declared.occurrences.fact.Facts.{Facts}
-use Rattle.types_resolve.specs.scope.Brackets.{items_known}
+use Rattle.types_resolve.specs.scope.TypeBrackets.{items_known}
 use Rattle.types_resolve.specs.occurrences.Facts.{capped}
-use Rattle.types_resolve.proofs.occurrences.ItemLemmas.{items_fall, items_turn, items_end}
-use Rattle.types_resolve.proofs.occurrences.WalkLemmas.{type_at-node}
+use Rattle.types_resolve.proofs.occurrences.OccurrenceItemLemmas.{items_fall, items_turn, items_end}
+use Rattle.types_resolve.proofs.occurrences.OccurrenceWalkLemmas.{type_at-node}
 use Rattle.types_resolve.proofs.occurrences.items.items_of.Goals as goal
 
 pub loop-w-smaller : goal.loop-w-smaller

@@ -1,8 +1,8 @@
 use Rattle.std.proofs.Common.{◌≡◌, ◌<◌, ◌++◌, length, drop}
 use Rattle.std.specs.Prelude.{reverse}
-use Rattle.types_spec.specs.types.Nodes.{types_of, type_at}
+use Rattle.types_spec.specs.types.TypeNodes.{types_of, type_at}
 use Rattle.types_resolve.specs.occurrences.Counted.{items_in}
-use Rattle.types_resolve.specs.scope.Brackets.{items_known}
+use Rattle.types_resolve.specs.scope.TypeBrackets.{items_known}
 use Rattle.types_resolve.proofs.occurrences.items.items_of.Given as goal
 
 -- The remaining items, followed by the collected items in reverse order, are all items of the

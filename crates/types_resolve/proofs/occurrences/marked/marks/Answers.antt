@@ -1,6 +1,6 @@
 use Rattle.std.proofs.Common.{arith, ap, ◌∙◌, ◌++◌}
 use Rattle.types_resolve.specs.occurrences.Counted.{one_if}
-use Rattle.types_resolve.proofs.occurrences.MarkLemmas.{marks_next}
+use Rattle.types_resolve.proofs.occurrences.OccurrenceMarkLemmas.{marks_next}
 use Rattle.types_resolve.proofs.occurrences.marked.marks.Goals as goal
 
 pub loop-i-preserved : goal.loop-i-preserved

@@ -1,4 +1,4 @@
-use Rattle.types_resolve.proofs.occurrences.MarkLemmas.{AreMarksTo}
+use Rattle.types_resolve.proofs.occurrences.OccurrenceMarkLemmas.{AreMarksTo}
 use Rattle.types_resolve.proofs.occurrences.marked.marks.Given as goal
 
 abbrev pub invariant-loop-i : goal.invariant-loop-i

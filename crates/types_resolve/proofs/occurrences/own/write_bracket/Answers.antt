@@ -1,12 +1,12 @@
 use Rattle.std.proofs.Common.{◌∙◌, ◌++◌, ◌∷◌, List, [], drop, ap}
 use Rattle.std.specs.List.{filter_map}
 use Rattle.std.proofs.lemmas.Result.{on_ok_weaker}
-use Rattle.types_spec.specs.types.Nodes.{types_of, type_at}
+use Rattle.types_spec.specs.types.TypeNodes.{types_of, type_at}
 use Rattle.types_spec.specs.types.Occurrence.{Placed}
 use Rattle.types_spec.specs.types.Scope.{written_tag}
 use Rattle.types_resolve.specs.occurrences.Counted.{items_in}
-use Rattle.types_resolve.specs.scope.Brackets.{items_known}
-use Rattle.types_resolve.proofs.occurrences.ItemLemmas.{brackets_more}
+use Rattle.types_resolve.specs.scope.TypeBrackets.{items_known}
+use Rattle.types_resolve.proofs.occurrences.OccurrenceItemLemmas.{brackets_more}
 use Rattle.types_resolve.proofs.occurrences.own.write_bracket.Goals as goal
 
 pub returns-clause-site : goal.returns-clause-site

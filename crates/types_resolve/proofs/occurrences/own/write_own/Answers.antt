@@ -1,8 +1,8 @@
 use Rattle.std.proofs.Common.{◌≡◌, ◌<◌, ◌∙◌, true, length, ap, arith}
 use Rattle.std.specs.Prelude.{slice_index}
 use Rattle.std.proofs.lemmas.Result.{on_ok_weaker}
-use Rattle.types_spec.specs.types.Nodes.{types_of}
-use Rattle.types_resolve.specs.scope.Brackets.{brackets_known}
+use Rattle.types_spec.specs.types.TypeNodes.{types_of}
+use Rattle.types_resolve.specs.scope.TypeBrackets.{brackets_known}
 use Rattle.types_resolve.proofs.occurrences.OwnLemmas.{writes_variable, writes_use, writes_bracket, writes_nothing, skipped_brackets}
 use Rattle.types_resolve.proofs.occurrences.OwnLemmas.{variable_brackets, use_brackets, bracket_brackets, nothing_brackets}
 use Rattle.types_resolve.proofs.occurrences.own.write_own.Goals as goal

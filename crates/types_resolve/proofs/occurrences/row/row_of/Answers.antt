@@ -1,10 +1,10 @@
 use Rattle.std.proofs.Common.{◌∙◌, ◌++◌, ap, sym}
 use Rattle.std.specs.List.{filter_map}
 use Rattle.std.proofs.lemmas.List.{append-nil, drop_all}
-use Rattle.types_spec.specs.types.Nodes.{types_of}
+use Rattle.types_spec.specs.types.TypeNodes.{types_of}
 use Rattle.types_spec.specs.types.Scope.{written_tag}
-use Rattle.types_resolve.specs.scope.Brackets.{items_known}
-use Rattle.types_resolve.proofs.occurrences.ItemLemmas.{tags_turn}
+use Rattle.types_resolve.specs.scope.TypeBrackets.{items_known}
+use Rattle.types_resolve.proofs.occurrences.OccurrenceItemLemmas.{tags_turn}
 use Rattle.types_resolve.proofs.occurrences.row.row_of.Goals as goal
 
 pub loop-item-preserved : goal.loop-item-preserved

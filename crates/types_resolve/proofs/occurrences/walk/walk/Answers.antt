@@ -1,13 +1,13 @@
 use Rattle.std.proofs.Common.{◌≡◌, ◌∙◌, ◌<◌, ◌++◌, [], length, sym, ap, subst, arith}
 use Rattle.std.specs.Prelude.{vec_len}
 use Rattle.std.proofs.lemmas.List.{append-nil}
-use Rattle.types_spec.specs.types.Nodes.{types_of}
+use Rattle.types_spec.specs.types.TypeNodes.{types_of}
 use Rattle.types_resolve.specs.occurrences.Adds.{Adds}
-use Rattle.types_resolve.specs.scope.Brackets.{brackets_known, brackets_among}
+use Rattle.types_resolve.specs.scope.TypeBrackets.{brackets_known, brackets_among}
 use Rattle.types_resolve.specs.occurrences.Walk.{task_own, task_seen, stack_seen}
 use Rattle.types_resolve.proofs.occurrences.AddsLemmas.{Adds-none, Adds-then}
-use Rattle.types_resolve.proofs.occurrences.FoundLemmas.{known_next}
-use Rattle.types_resolve.proofs.occurrences.WalkLemmas.{popped_below, none_left, next_below, next_weight, next_seen}
+use Rattle.types_resolve.proofs.occurrences.OccurrenceFoundLemmas.{known_next}
+use Rattle.types_resolve.proofs.occurrences.OccurrenceWalkLemmas.{popped_below, none_left, next_below, next_weight, next_seen}
 use Rattle.types_resolve.proofs.occurrences.walk.walk.Goals as goal
 
 pub write_own-requires-clause-task : goal.write_own-requires-clause-task

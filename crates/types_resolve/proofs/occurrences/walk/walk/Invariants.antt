@@ -1,8 +1,8 @@
 use Rattle.std.proofs.Common.{◌≡◌, ◌++◌, length, []}
-use Rattle.types_spec.specs.types.Nodes.{types_of}
+use Rattle.types_spec.specs.types.TypeNodes.{types_of}
 use Rattle.types_resolve.specs.declared.scope.site.Site.{Site}
 use Rattle.types_resolve.specs.occurrences.Adds.{Adds}
-use Rattle.types_resolve.specs.scope.Brackets.{brackets_known, brackets_among}
+use Rattle.types_resolve.specs.scope.TypeBrackets.{brackets_known, brackets_among}
 use Rattle.types_resolve.specs.occurrences.Walk.{task_seen, stack_seen, stack_weight, AreBelow}
 use Rattle.types_resolve.proofs.occurrences.walk.walk.Given as goal
 

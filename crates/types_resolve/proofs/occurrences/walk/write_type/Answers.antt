@@ -1,19 +1,19 @@
 use Rattle.std.proofs.Common.{◌≡◌, ◌<◌, ◌-◌, ◌∙◌, ◌++◌, List, false, [], length, drop, sym, ap, subst, arith}
 use Rattle.std.proofs.lemmas.Bool.{eqb-true}
 use Rattle.types_spec.specs.types.Ty.{Ty, tuple}
-use Rattle.types_spec.specs.types.Nodes.{types_of, type_at}
+use Rattle.types_spec.specs.types.TypeNodes.{types_of, type_at}
 use Rattle.types_resolve.specs.occurrences.Counted.{in_type}
 use Rattle.types_resolve.specs.occurrences.CountedFile.{type_count}
 use Rattle.types_resolve.specs.declared.occurrences.fact.Facts.{Facts}
 use Rattle.types_resolve.specs.declared.scope.site.Site.{Site}
-use Rattle.types_resolve.specs.declared.scope.brackets.BracketItem.{BracketItem}
+use Rattle.types_resolve.specs.declared.scope.type_brackets.BracketItem.{BracketItem}
 use Rattle.types_resolve.specs.occurrences.Adds.{Adds}
-use Rattle.types_resolve.specs.scope.Brackets.{brackets_known, brackets_among}
-use Rattle.types_resolve.specs.occurrences.Found.{AddsFound}
+use Rattle.types_resolve.specs.scope.TypeBrackets.{brackets_known, brackets_among}
+use Rattle.types_resolve.specs.occurrences.FoundOccurrences.{AddsFound}
 use Rattle.types_resolve.specs.occurrences.Facts.{total_of, fact_at}
-use Rattle.types_resolve.proofs.occurrences.FoundLemmas.{AddsFound-none, AddsFound-type}
+use Rattle.types_resolve.proofs.occurrences.OccurrenceFoundLemmas.{AddsFound-none, AddsFound-type}
 use Rattle.types_resolve.proofs.occurrences.FactLemmas.{total_is}
-use Rattle.types_resolve.proofs.occurrences.WalkLemmas.{no_nodes, last_type, drop_capped}
+use Rattle.types_resolve.proofs.occurrences.OccurrenceWalkLemmas.{no_nodes, last_type, drop_capped}
 use Rattle.types_resolve.proofs.occurrences.walk.write_type.Goals as goal
 
 pub returns-then-is_empty-clause-adds : goal.returns-then-is_empty-clause-adds

@@ -1,6 +1,6 @@
 use Rattle.std.proofs.Common.{sym, ◌∙◌}
 use Rattle.std.proofs.lemmas.Bool.{false≢true}
-use Rattle.types_resolve.proofs.scope.RankLemmas.{rank_of, ranked-off_cycle}
+use Rattle.types_resolve.proofs.scope.ScopeRankLemmas.{rank_of, ranked-off_cycle}
 use Rattle.types_resolve.proofs.scope.cyclic.comes_back.Goals as goal
 
 pub returns-then-is_ranked : goal.returns-then-is_ranked

@@ -3,7 +3,7 @@ use Rattle.std.proofs.lemmas.Result.{IfOk-weaker}
 use Rattle.types_spec.specs.types.Scope.{BreaksInFile, cyclic}
 use Rattle.types_resolve.specs.scope.Cyclic.{IsCyclicName}
 use Rattle.types_resolve.specs.scope.Least.{IsLeast}
-use Rattle.types_resolve.specs.scope.Steps.{IsStepGraph}
+use Rattle.types_resolve.specs.scope.AbbreviationSteps.{IsStepGraph}
 use Rattle.types_resolve.proofs.scope.CyclicLemmas.{least_of_file}
 use Rattle.types_resolve.proofs.scope.cyclic.least_cyclic.Goals as goal
 

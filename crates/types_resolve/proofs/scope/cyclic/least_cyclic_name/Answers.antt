@@ -3,7 +3,7 @@ use Rattle.std.proofs.lemmas.Bool.{false≢true}
 use Rattle.std.proofs.lemmas.Option.{slice_get_read}
 use Rattle.types_resolve.specs.scope.Cyclic.{CyclicAt, ComesBefore}
 use Rattle.types_resolve.specs.scope.Least.{IsLeast, earliest, position_if}
-use Rattle.types_resolve.proofs.scope.LeastLemmas.{Before}
+use Rattle.types_resolve.proofs.scope.ScopeLeastLemmas.{Before}
 use Rattle.types_resolve.proofs.scope.CyclicLemmas.{more_cyclic, late_cyclic}
 use Rattle.types_resolve.proofs.scope.cyclic.least_cyclic_name.Goals as goal
 use Rattle.types_resolve.proofs.scope.cyclic.least_cyclic_name.Goals.{then-comes_before+in_ok-back, else-comes_before}

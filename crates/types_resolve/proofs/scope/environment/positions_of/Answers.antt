@@ -1,8 +1,8 @@
 use Rattle.std.proofs.Common.{subst, arith, List, ℕ, ◌≡◌}
 use Rattle.types_resolve.specs.scope.Breaks.{names_of_decls}
-use Rattle.types_resolve.specs.scope.Names.{number_of, added}
-use Rattle.types_resolve.proofs.scope.NameLemmas.{positions_more}
-use Rattle.types_resolve.proofs.scope.DeclaredLemmas.{decl_named}
+use Rattle.types_resolve.specs.scope.NamePositions.{number_of, added}
+use Rattle.types_resolve.proofs.scope.ScopeNameLemmas.{positions_more}
+use Rattle.types_resolve.proofs.scope.ScopeDeclaredLemmas.{decl_named}
 use Rattle.types_resolve.proofs.scope.environment.positions_of.Goals as goal
 
 pub loop-i-preserved : goal.loop-i-preserved

@@ -1,4 +1,4 @@
-use Rattle.types_resolve.specs.scope.Names.{ArePositions, number_of}
+use Rattle.types_resolve.specs.scope.NamePositions.{ArePositions, number_of}
 use Rattle.types_resolve.specs.scope.Breaks.{names_of_decls}
 use Rattle.types_resolve.proofs.scope.environment.positions_of.Given as goal
 

@@ -2,7 +2,7 @@ use Rattle.std.proofs.Common.{Some, cond, ap, ◌∙◌}
 use Rattle.std.specs.Prelude.{unwrap_or}
 use Rattle.std.specs.Str.{bytes_eq}
 use Rattle.std.proofs.lemmas.Map.Text.{hash_map_updates_str}
-use Rattle.types_resolve.specs.scope.Names.{number_of}
+use Rattle.types_resolve.specs.scope.NamePositions.{number_of}
 use Rattle.types_resolve.proofs.scope.name_table.add.Goals as goal
 
 pub returns-in_ok-insert-in-None-clause-added : goal.returns-in_ok-insert-in-None-clause-added

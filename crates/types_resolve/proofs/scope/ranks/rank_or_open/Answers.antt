@@ -3,7 +3,7 @@ use Rattle.std.specs.Prelude.{slice_index_or}
 use Rattle.std.specs.List.{list_all}
 use Rattle.types_resolve.specs.declared.scope.ranks.VisitState.TheVariants as marks
 use Rattle.types_resolve.specs.scope.Ranks.{is_ranked}
-use Rattle.types_resolve.proofs.scope.RankLemmas.{ranks_opened, below_opened, ranks_more, below_more_ranks, all_ranked}
+use Rattle.types_resolve.proofs.scope.ScopeRankLemmas.{ranks_opened, below_opened, ranks_more, below_more_ranks, all_ranked}
 use Rattle.types_resolve.proofs.scope.ranks.rank_or_open.Goals as goal
 
 pub returns-then-are_ranked-clause-ranks : goal.returns-then-are_ranked-clause-ranks

@@ -1,9 +1,9 @@
 use Rattle.std.proofs.Common.{ap, subst, ◌∙◌, arith, List, ℕ, Bool, ◌≡◌}
 use Rattle.std.specs.Prelude.{is_some}
 use Rattle.types_resolve.specs.scope.Least.{position_if}
-use Rattle.types_resolve.specs.scope.Names.{number_of, added}
-use Rattle.types_resolve.proofs.scope.NameLemmas.{positions_more}
-use Rattle.types_resolve.proofs.scope.SecondLemmas.{names_of, more_seconds, all_seconds, name_at}
+use Rattle.types_resolve.specs.scope.NamePositions.{number_of, added}
+use Rattle.types_resolve.proofs.scope.ScopeNameLemmas.{positions_more}
+use Rattle.types_resolve.proofs.scope.ScopeSecondLemmas.{names_of, more_seconds, all_seconds, name_at}
 use Rattle.types_resolve.proofs.scope.seconds.least_second.Goals as goal
 
 pub loop-i-preserved : goal.loop-i-preserved

@@ -1,7 +1,7 @@
 use Rattle.types_resolve.specs.scope.Least.{IsLeast}
-use Rattle.types_resolve.specs.scope.Names.{ArePositions, number_of}
-use Rattle.types_resolve.proofs.scope.LeastLemmas.{Before}
-use Rattle.types_resolve.proofs.scope.SecondLemmas.{names_of, SecondAt}
+use Rattle.types_resolve.specs.scope.NamePositions.{ArePositions, number_of}
+use Rattle.types_resolve.proofs.scope.ScopeLeastLemmas.{Before}
+use Rattle.types_resolve.proofs.scope.ScopeSecondLemmas.{names_of, SecondAt}
 use Rattle.types_resolve.proofs.scope.seconds.least_second.Given as goal
 
 abbrev pub invariant-loop-i : goal.invariant-loop-i

@@ -2,7 +2,7 @@ use Rattle.std.proofs.Common.{subst, arith, List}
 use Rattle.types_resolve.specs.scope.Least.{IsLeast}
 use Rattle.types_spec.specs.types.Occurrence.{Placed}
 use Rattle.types_spec.specs.types.Scope.{IsSecond}
-use Rattle.types_resolve.proofs.scope.LeastLemmas.{more_items, all_items}
+use Rattle.types_resolve.proofs.scope.ScopeLeastLemmas.{more_items, all_items}
 use Rattle.types_resolve.proofs.scope.seconds.least_second_of_rows.Goals as goal
 
 pub loop-i-preserved : goal.loop-i-preserved

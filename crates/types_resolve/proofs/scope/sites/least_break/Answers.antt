@@ -3,8 +3,8 @@ use Rattle.std.specs.Prelude.{IfOk}
 use Rattle.types_spec.specs.types.Scope.{BreaksInFile, NamesBreak, twice}
 use Rattle.types_resolve.specs.scope.Breaks.{SitesBreak, NameBreaks, WantsDistinctNames, rule_of}
 use Rattle.types_resolve.specs.scope.Least.{IsLeast, earliest}
-use Rattle.types_resolve.proofs.scope.LeastLemmas.{least_same, least_of_either}
-use Rattle.types_resolve.proofs.scope.FileLemmas.{file_breaks}
+use Rattle.types_resolve.proofs.scope.ScopeLeastLemmas.{least_same, least_of_either}
+use Rattle.types_resolve.proofs.scope.ScopeFileLemmas.{file_breaks}
 use Rattle.types_resolve.proofs.scope.sites.least_break.Goals as goal
 
 pub least_cyclic-requires : goal.least_cyclic-requires

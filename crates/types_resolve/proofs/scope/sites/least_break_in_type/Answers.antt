@@ -2,8 +2,8 @@ use Rattle.std.proofs.lemmas.Result.{IfOk-weaker}
 use Rattle.types_spec.specs.types.Scope.{BreaksInType}
 use Rattle.types_resolve.specs.scope.Breaks.{TypeBreaks, rule_of}
 use Rattle.types_resolve.specs.scope.Least.{IsLeast}
-use Rattle.types_resolve.proofs.scope.LeastLemmas.{least_same}
-use Rattle.types_resolve.proofs.scope.FileLemmas.{type_breaks}
+use Rattle.types_resolve.proofs.scope.ScopeLeastLemmas.{least_same}
+use Rattle.types_resolve.proofs.scope.ScopeFileLemmas.{type_breaks}
 use Rattle.types_resolve.proofs.scope.sites.least_break_in_type.Goals as goal
 
 pub returns : goal.returns

@@ -1,6 +1,6 @@
 use Rattle.std.proofs.Common.{sym, arith}
 use Rattle.std.proofs.lemmas.Option.{get_or_from_slice_get}
-use Rattle.types_resolve.proofs.scope.SiteLemmas.{more_sites, all_sites}
+use Rattle.types_resolve.proofs.scope.ScopeSiteLemmas.{more_sites, all_sites}
 use Rattle.types_resolve.proofs.scope.sites.least_in_sites.Goals as goal
 
 pub loop-i-preserved : goal.loop-i-preserved

@@ -1,6 +1,6 @@
 use Rattle.types_resolve.specs.scope.Breaks.{BreaksAt}
 use Rattle.types_resolve.specs.scope.Least.{IsLeast}
-use Rattle.types_resolve.proofs.scope.LeastLemmas.{Before}
+use Rattle.types_resolve.proofs.scope.ScopeLeastLemmas.{Before}
 use Rattle.types_resolve.proofs.scope.sites.least_in_sites.Given as goal
 
 abbrev pub invariant-loop-i : goal.invariant-loop-i

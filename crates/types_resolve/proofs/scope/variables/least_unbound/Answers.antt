@@ -2,9 +2,9 @@ use Rattle.std.proofs.Common.{arith, ◌≡◌, ◌∙◌, ap, ℕ, length, sym,
 use Rattle.std.specs.Prelude.{Contains}
 use Rattle.types_spec.specs.types.Occurrence.{Placed}
 use Rattle.types_resolve.specs.scope.Least.{position_if}
-use Rattle.types_resolve.specs.scope.Names.{number_of, IsPosition}
-use Rattle.types_resolve.proofs.scope.NameLemmas.{absent}
-use Rattle.types_resolve.proofs.scope.LeastLemmas.{more_tested, all_items}
+use Rattle.types_resolve.specs.scope.NamePositions.{number_of, IsPosition}
+use Rattle.types_resolve.proofs.scope.ScopeNameLemmas.{absent}
+use Rattle.types_resolve.proofs.scope.ScopeLeastLemmas.{more_tested, all_items}
 use Rattle.types_resolve.proofs.scope.variables.least_unbound.Goals as goal
 
 pub loop-i-preserved : goal.loop-i-preserved

@@ -1,7 +1,7 @@
 use Rattle.std.specs.Prelude.{◌≡◌, Contains}
 use Rattle.types_spec.specs.types.Occurrence.{Placed}
 use Rattle.types_resolve.specs.scope.Least.{IsLeast}
-use Rattle.types_resolve.proofs.scope.LeastLemmas.{Before, AtItem}
+use Rattle.types_resolve.proofs.scope.ScopeLeastLemmas.{Before, AtItem}
 use Rattle.types_resolve.proofs.scope.variables.least_unbound.Given as goal
 
 abbrev pub invariant-loop-i : goal.invariant-loop-i

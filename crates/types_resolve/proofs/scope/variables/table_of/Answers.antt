@@ -1,7 +1,7 @@
 use Rattle.std.proofs.Common.{subst, refl, length, arith, List, ℕ, ◌≡◌}
 use Rattle.std.proofs.lemmas.Option.{slice_get_read}
-use Rattle.types_resolve.specs.scope.Names.{number_of, added}
-use Rattle.types_resolve.proofs.scope.NameLemmas.{positions_more}
+use Rattle.types_resolve.specs.scope.NamePositions.{number_of, added}
+use Rattle.types_resolve.proofs.scope.ScopeNameLemmas.{positions_more}
 use Rattle.types_resolve.proofs.scope.variables.table_of.Goals as goal
 
 pub loop-i-preserved : goal.loop-i-preserved

@@ -1,4 +1,4 @@
-use Rattle.types_resolve.specs.scope.Names.{ArePositions, number_of}
+use Rattle.types_resolve.specs.scope.NamePositions.{ArePositions, number_of}
 use Rattle.types_resolve.proofs.scope.variables.table_of.Given as goal
 
 abbrev pub invariant-loop-i : goal.invariant-loop-i

@@ -1,5 +1,5 @@
 use Rattle.std.proofs.Common.{◌∙◌, sym}
-use Rattle.types_spec.proofs.types.SumLemmas.{row_passed}
+use Rattle.types_spec.proofs.types.TypeSumLemmas.{row_passed}
 use Rattle.types_spec.proofs.types.predeclared.meaning_of.Goals as goal
 
 pub loop-k-preserved : goal.loop-k-preserved

@@ -1,4 +1,4 @@
-use Rattle.types_spec.proofs.types.SumLemmas.{name_found, name_past}
+use Rattle.types_spec.proofs.types.TypeSumLemmas.{name_found, name_past}
 use Rattle.types_spec.proofs.types.predeclared.name.Goals as goal
 
 pub returns-then-number-all : goal.returns-then-number-all

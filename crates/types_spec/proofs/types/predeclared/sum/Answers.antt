@@ -1,5 +1,5 @@
 use Rattle.std.proofs.Common.{◌∙◌}
-use Rattle.types_spec.proofs.types.SumLemmas.{sum_found, sum_past}
+use Rattle.types_spec.proofs.types.TypeSumLemmas.{sum_found, sum_past}
 use Rattle.types_spec.proofs.types.predeclared.sum.Goals as goal
 
 pub returns-then-number-all : goal.returns-then-number-all

@@ -1,6 +1,6 @@
 use Rattle.std.proofs.Common.{subst}
 use Rattle.types_table.specs.partition.Start.{IsParted}
-use Rattle.types_table.proofs.partition.EndLemmas.{ended}
+use Rattle.types_table.proofs.partition.PartitionEndLemmas.{ended}
 use Rattle.types_table.proofs.partition.all_classes.classes.Goals as goal
 
 pub returns : goal.returns

@@ -1,5 +1,5 @@
 use Rattle.std.proofs.Common.{arith}
-use Rattle.types_table.proofs.partition.EndLemmas.{below_more}
+use Rattle.types_table.proofs.partition.PartitionEndLemmas.{below_more}
 use Rattle.types_table.proofs.partition.all_classes.numbers_below.Goals as goal
 
 pub loop-number-init : goal.loop-number-init

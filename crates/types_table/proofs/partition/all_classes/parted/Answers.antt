@@ -1,7 +1,7 @@
 use Rattle.std.proofs.Common.{ℕ, ◌≡◌, List, [], ◌∷◌, length, refl, subst, sym, arith}
 use Rattle.std.specs.Global.{Vec}
 use Rattle.types_table.specs.partition.Start.{IsParted}
-use Rattle.types_table.proofs.partition.EndLemmas.{one_class, keeps_then, none_waits}
+use Rattle.types_table.proofs.partition.PartitionEndLemmas.{one_class, keeps_then, none_waits}
 use Rattle.types_table.proofs.partition.all_classes.parted.Goals as goal
 
 empty : (xs : List ℕ) → length xs ≡ 0 → xs ≡ []

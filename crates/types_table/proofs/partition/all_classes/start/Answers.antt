@@ -1,5 +1,5 @@
 use Rattle.std.proofs.Common.{ap, ◌∙◌, ◌++◌, ◌∷◌, []}
-use Rattle.types_table.proofs.partition.EndLemmas.{started}
+use Rattle.types_table.proofs.partition.PartitionEndLemmas.{started}
 use Rattle.types_table.proofs.partition.all_classes.start.Goals as goal
 
 pub returns-clause-under_way : goal.returns-clause-under_way

@@ -1,5 +1,5 @@
 use Rattle.std.proofs.Common.{◌∙◌, ◌+◌, ◌∷◌, [], ap, length, length-append}
-use Rattle.types_table.proofs.partition.EndLemmas.{zero_more, none_zero}
+use Rattle.types_table.proofs.partition.PartitionEndLemmas.{zero_more, none_zero}
 use Rattle.types_table.proofs.partition.all_classes.zeros.Goals as goal
 
 pub loop-number-init : goal.loop-number-init

@@ -1,6 +1,6 @@
 use Rattle.std.proofs.Common.{◌∙◌, Some, refl, ap}
 use Rattle.types_table.specs.partition.Form.{IsTagForm}
-use Rattle.types_table.proofs.store.HeldLemmas.{Grows-then}
+use Rattle.types_table.proofs.store.StoreHeldLemmas.{Grows-then}
 use Rattle.types_table.proofs.partition.FormLemmas.{adds_grows, tag_forms_grown, AllZip-next}
 use Rattle.types_table.proofs.partition.head_form.tag_forms.Goals as goal
 

@@ -1,6 +1,6 @@
 use Rattle.std.proofs.Common.{◌≡◌, length, subst, sym, arith}
 use Rattle.types_table.specs.partition.Lists.{HasRooms}
-use Rattle.types_table.proofs.partition.ListLemmas.{room_more, rooms_now}
+use Rattle.types_table.proofs.partition.PartitionListLemmas.{room_more, rooms_now}
 use Rattle.types_table.proofs.partition.lists.make_rooms.Goals as goal
 
 pub loop-room-init : goal.loop-room-init

@@ -2,7 +2,7 @@ use Rattle.std.proofs.Common.{ℕ, ◌≡◌, ◌∙◌, length, ap, subst, sym,
 use Rattle.std.specs.Global.{Vec}
 use Rattle.base_data.proofs.model.Lists.{take-whole}
 use Rattle.types_table.specs.partition.Lists.{IsOfClass}
-use Rattle.types_table.proofs.partition.ListLemmas.{of_class_none, of_class_more, of_class_same, of_class_set}
+use Rattle.types_table.proofs.partition.PartitionListLemmas.{of_class_none, of_class_more, of_class_same, of_class_set}
 use Rattle.types_table.proofs.partition.lists.of_class.Goals as goal
 use Rattle.types_table.proofs.partition.lists.of_class.Goals.{then-has_class+in_ok-push, else-has_class}
 

@@ -1,6 +1,6 @@
 use Rattle.std.proofs.Common.{subst, refl, arith}
 use Rattle.types_table.specs.partition.Lists.{IsOfClass}
-use Rattle.types_table.proofs.partition.ListLemmas.{shorter_is}
+use Rattle.types_table.proofs.partition.PartitionListLemmas.{shorter_is}
 use Rattle.types_table.proofs.partition.lists.shorten.Goals as goal
 
 pub returns : goal.returns

@@ -1,7 +1,7 @@
 use Rattle.std.proofs.Common.{ap, ◌∙◌, ℕ}
 use Rattle.std.specs.Global.{Vec}
 use Rattle.std.proofs.Common.{arith}
-use Rattle.types_table.proofs.partition.ListLemmas.{taken_is}
+use Rattle.types_table.proofs.partition.PartitionListLemmas.{taken_is}
 use Rattle.types_table.proofs.partition.lists.taken.Goals as goal
 
 pub returns : goal.returns

@@ -1,5 +1,5 @@
 use Rattle.std.proofs.Common.{arith}
-use Rattle.types_table.proofs.partition.ListLemmas.{write_is}
+use Rattle.types_table.proofs.partition.PartitionListLemmas.{write_is}
 use Rattle.types_table.proofs.partition.lists.write.Goals as goal
 
 pub returns : goal.returns

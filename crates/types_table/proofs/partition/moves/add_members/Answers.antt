@@ -1,7 +1,7 @@
 use Rattle.std.proofs.Common.{◌≡◌, length, subst, arith}
 use Rattle.base_data.proofs.model.Lists.{take-whole}
 use Rattle.types_table.specs.partition.Refinement.{HasMembers}
-use Rattle.types_table.proofs.partition.LoopLemmas.{members_more}
+use Rattle.types_table.proofs.partition.PartitionLoopLemmas.{members_more}
 use Rattle.types_table.proofs.partition.moves.add_members.Goals as goal
 
 pub loop-number-preserved : goal.loop-number-preserved

@@ -2,7 +2,7 @@ use Rattle.std.proofs.Common.{◌≡◌, ◌∙◌, length, get_or, refl, subst,
 use Rattle.std.proofs.Math.ListN.{length-set}
 use Rattle.std.proofs.lemmas.Option.{slice_get-get_or}
 use Rattle.types_table.specs.partition.Refinement.{AreMoved}
-use Rattle.types_table.proofs.partition.LoopLemmas.{moved_none, moved_more}
+use Rattle.types_table.proofs.partition.PartitionLoopLemmas.{moved_none, moved_more}
 use Rattle.types_table.proofs.partition.moves.move_all.Goals as goal
 
 pub loop-at-init : goal.loop-at-init

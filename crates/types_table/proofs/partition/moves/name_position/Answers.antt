@@ -1,5 +1,5 @@
 use Rattle.std.proofs.Common.{◌≡◌, ◌∙◌, ◌++◌, ◌∷◌, [], length, ap, arith}
-use Rattle.types_table.proofs.partition.LoopLemmas.{named_kept, named_new}
+use Rattle.types_table.proofs.partition.PartitionLoopLemmas.{named_kept, named_new}
 use Rattle.types_table.proofs.partition.moves.name_position.Goals as goal
 
 pub returns-then-position-kept : goal.returns-then-position-kept

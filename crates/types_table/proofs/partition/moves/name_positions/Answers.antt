@@ -1,6 +1,6 @@
 use Rattle.std.proofs.Common.{◌≡◌, ◌∙◌, Some, length, ap, sym, subst, arith}
 use Rattle.types_table.specs.partition.Refinement.{NamedSoFar}
-use Rattle.types_table.proofs.partition.LoopLemmas.{named_none, named_all}
+use Rattle.types_table.proofs.partition.PartitionLoopLemmas.{named_none, named_all}
 use Rattle.types_table.proofs.partition.moves.name_positions.Goals as goal
 
 pub loop-position-init : goal.loop-position-init

@@ -1,4 +1,4 @@
-use Rattle.types_table.proofs.partition.LoopLemmas.{signed_more}
+use Rattle.types_table.proofs.partition.PartitionLoopLemmas.{signed_more}
 use Rattle.types_table.proofs.partition.moves.positions_of.Goals as goal
 use Rattle.base_data.proofs.model.Lists.{slice_get-read}
 

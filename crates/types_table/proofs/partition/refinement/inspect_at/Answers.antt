@@ -1,6 +1,6 @@
 use Rattle.std.proofs.Common.{arith}
 use Rattle.base_data.proofs.model.Lists.{slice_get-read}
-use Rattle.types_table.proofs.partition.EndLemmas.{settled_as, members_there}
+use Rattle.types_table.proofs.partition.PartitionEndLemmas.{settled_as, members_there}
 use Rattle.types_table.proofs.partition.refinement.inspect_at.Goals as goal
 
 pub inspect_at_few-requires-clause-settled : goal.inspect_at_few-requires-clause-settled

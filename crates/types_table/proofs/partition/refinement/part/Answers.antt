@@ -1,8 +1,8 @@
 use Rattle.std.proofs.Common.{◌<◌, ◌≡◌, ◌∙◌, length, refl, ap, subst, sym, arith}
 use Rattle.std.specs.Prelude.{slice_index}
 use Rattle.types_table.specs.partition.Lists.{HasRooms}
-use Rattle.types_table.proofs.partition.TurnLemmas.{within_new}
-use Rattle.types_table.proofs.partition.EndLemmas.{inspected_in, positions_in, positions_long, moved_as, has_as, marks_as, All-as, ready_rooms, part_under, part_keeps}
+use Rattle.types_table.proofs.partition.PartitionTurnLemmas.{within_new}
+use Rattle.types_table.proofs.partition.PartitionEndLemmas.{inspected_in, positions_in, positions_long, moved_as, has_as, marks_as, All-as, ready_rooms, part_under, part_keeps}
 use Rattle.types_table.proofs.partition.refinement.part.Goals as goal
 
 pub move_all-requires-clause-inspected : goal.move_all-requires-clause-inspected

@@ -1,6 +1,6 @@
 use Rattle.std.proofs.Common.{subst}
 use Rattle.types_table.specs.partition.Lists.{IsShorter}
-use Rattle.types_table.proofs.partition.ListLemmas.{members_shorter}
+use Rattle.types_table.proofs.partition.PartitionListLemmas.{members_shorter}
 use Rattle.types_table.proofs.partition.refinement.shorten_members.Goals as goal
 
 pub returns-clause-members : goal.returns-clause-members

@@ -3,7 +3,7 @@ use Rattle.std.specs.Global.{Vec}
 use Rattle.std.proofs.lemmas.List.Elements.{Contains-push}
 use Rattle.types_table.specs.partition.Lists.{IsTaken}
 use Rattle.types_table.specs.partition.Refinement.{PartsNoEqual}
-use Rattle.types_table.proofs.partition.EndLemmas.{opened, open_members, open_same}
+use Rattle.types_table.proofs.partition.PartitionEndLemmas.{opened, open_members, open_same}
 use Rattle.types_table.proofs.partition.refinement.turn.Goals as goal
 
 pub taken-waited-requires : goal.taken-waited-requires

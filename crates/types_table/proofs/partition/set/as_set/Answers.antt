@@ -1,4 +1,4 @@
-use Rattle.types_table.proofs.partition.SetLemmas.{is_set}
+use Rattle.types_table.proofs.partition.PartitionSetLemmas.{is_set}
 use Rattle.types_table.proofs.partition.set.as_set.Goals as goal
 
 pub returns : goal.returns

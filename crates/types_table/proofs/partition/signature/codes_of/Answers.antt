@@ -1,6 +1,6 @@
 use Rattle.std.specs.Prelude.{slice_index}
 use Rattle.types_table.specs.partition.Signature.{IsCode}
-use Rattle.types_table.proofs.partition.SetLemmas.{get_or_default}
+use Rattle.types_table.proofs.partition.PartitionSetLemmas.{get_or_default}
 use Rattle.types_table.proofs.partition.FormLemmas.{AllZip-next}
 use Rattle.types_table.proofs.partition.signature.codes_of.Goals as goal
 

@@ -3,7 +3,7 @@ use Rattle.std.specs.Prelude.{Contains}
 use Rattle.std.proofs.lemmas.List.{take_more}
 use Rattle.base_data.proofs.model.Lists.{take-whole}
 use Rattle.types_table.specs.partition.Lists.{Has}
-use Rattle.types_table.proofs.partition.LoopLemmas.{uses_more, only_one, arguments, arguments_next}
+use Rattle.types_table.proofs.partition.PartitionLoopLemmas.{uses_more, only_one, arguments, arguments_next}
 use Rattle.types_table.proofs.partition.users.add_user.Goals as goal
 
 pub loop-part-preserved : goal.loop-part-preserved

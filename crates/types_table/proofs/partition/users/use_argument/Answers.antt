@@ -2,7 +2,7 @@ use Rattle.std.proofs.Common.{ℕ, ◌<◌, Option, length, subst}
 use Rattle.std.specs.Prelude.{Contains}
 use Rattle.types_spec.specs.types.Reached.{listed_if}
 use Rattle.types_table.specs.partition.Lists.{Has}
-use Rattle.types_table.proofs.partition.LoopLemmas.{only_one}
+use Rattle.types_table.proofs.partition.PartitionLoopLemmas.{only_one}
 use Rattle.types_table.proofs.partition.users.use_argument.Goals as goal
 
 pub returns-in_ok-use_part-in-Some-clause-added : goal.returns-in_ok-use_part-in-Some-clause-added

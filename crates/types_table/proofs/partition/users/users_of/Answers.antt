@@ -1,7 +1,7 @@
 use Rattle.std.proofs.Common.{arith}
 use Rattle.std.proofs.lemmas.Option.{slice_get_within}
 use Rattle.base_data.proofs.model.Lists.{slice_get-read}
-use Rattle.types_table.proofs.partition.LoopLemmas.{users_more}
+use Rattle.types_table.proofs.partition.PartitionLoopLemmas.{users_more}
 use Rattle.types_table.proofs.partition.users.users_of.Goals as goal
 
 pub loop-user-preserved : goal.loop-user-preserved

@@ -1,7 +1,7 @@
 use Rattle.std.proofs.Common.{◌<◌, sym, ◌∙◌, arith}
 use Rattle.std.specs.Vec.{vec_len}
 use Rattle.base_data.proofs.model.Lists.{slice_get-read}
-use Rattle.types_table.proofs.partition.LoopLemmas.{not_empty, positive, ready_more}
+use Rattle.types_table.proofs.partition.PartitionLoopLemmas.{not_empty, positive, ready_more}
 use Rattle.types_table.proofs.partition.waits.have_done.Goals as goal
 
 pub returns-then-not-is_empty-clause-there : goal.returns-then-not-is_empty-clause-there

@@ -1,6 +1,6 @@
 use Rattle.std.proofs.Common.{subst}
 use Rattle.types_table.specs.partition.Refinement.{IsReady}
-use Rattle.types_table.proofs.partition.LoopLemmas.{ready_written}
+use Rattle.types_table.proofs.partition.PartitionLoopLemmas.{ready_written}
 use Rattle.types_table.proofs.partition.waits.mark.Goals as goal
 
 pub returns-clause-ready : goal.returns-clause-ready

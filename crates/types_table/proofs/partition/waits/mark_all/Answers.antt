@@ -2,7 +2,7 @@ use Rattle.std.proofs.Common.{ℕ, ◌≡◌, length, get_or, subst, arith}
 use Rattle.std.specs.Prelude.{Contains, slice_index}
 use Rattle.base_data.proofs.model.Lists.{take-whole}
 use Rattle.types_table.specs.partition.Lists.{Has}
-use Rattle.types_table.proofs.partition.LoopLemmas.{marks_more}
+use Rattle.types_table.proofs.partition.PartitionLoopLemmas.{marks_more}
 use Rattle.types_table.proofs.partition.waits.mark_all.Goals as goal
 
 pub loop-number-preserved : goal.loop-number-preserved

@@ -1,7 +1,7 @@
 use Rattle.std.proofs.Common.{◌≡◌, length, subst, arith}
 use Rattle.base_data.proofs.model.Lists.{take-whole}
 use Rattle.types_table.specs.partition.Refinement.{MarksUsers}
-use Rattle.types_table.proofs.partition.LoopLemmas.{user_marks_more}
+use Rattle.types_table.proofs.partition.PartitionLoopLemmas.{user_marks_more}
 use Rattle.types_table.proofs.partition.waits.mark_users.Goals as goal
 
 pub loop-number-preserved : goal.loop-number-preserved

@@ -1,9 +1,9 @@
 use Rattle.std.proofs.Common.{sym, ap, ◌∙◌, subst, map, IfOk}
 use Rattle.types_spec.specs.types.Ty.{variable}
-use Rattle.types_spec.specs.types.Nodes.{type_at}
+use Rattle.types_spec.specs.types.TypeNodes.{type_at}
 use Rattle.types_table.specs.store.Held.{Holds}
 use Rattle.types_table.specs.store.Instance.{argument_at, instance_of_node}
-use Rattle.types_table.proofs.store.InstanceLemmas.{holds_there, among_below}
+use Rattle.types_table.proofs.store.StoreInstanceLemmas.{holds_there, among_below}
 use Rattle.types_table.proofs.store.instance.add_node.Goals as goal
 
 pub returns-in-Some-clause-ok : goal.returns-in-Some-clause-ok

@@ -2,7 +2,7 @@ use Rattle.std.proofs.Common.{sym, ap, ◌∙◌, ◌≡◌, ◌<◌, ◌≤◌,
 use Rattle.std.specs.Str.{bytes_eq}
 use Rattle.std.proofs.lemmas.Option.{slice_get_read}
 use Rattle.types_table.specs.store.Instance.{argument_at}
-use Rattle.types_table.proofs.store.InstanceLemmas.{argument_skipped, argument_none}
+use Rattle.types_table.proofs.store.StoreInstanceLemmas.{argument_skipped, argument_none}
 use Rattle.types_table.proofs.store.instance.argument.Goals as goal
 
 pub loop-i-preserved : goal.loop-i-preserved

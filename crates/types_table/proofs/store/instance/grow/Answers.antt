@@ -1,6 +1,6 @@
 use Rattle.std.proofs.Common.{sym, ap, ◌∙◌, length, slice_get, ◌-◌}
 use Rattle.types_table.specs.store.Instance.{argument_at}
-use Rattle.types_table.proofs.store.InstanceLemmas.{last_instance, no_instance, held_is}
+use Rattle.types_table.proofs.store.StoreInstanceLemmas.{last_instance, no_instance, held_is}
 use Rattle.types_table.proofs.store.instance.grow.Goals as goal
 
 pub returns-in-Some-clause-ok : goal.returns-in-Some-clause-ok

@@ -1,8 +1,8 @@
 use Rattle.std.proofs.Common.{sym, ap, ◌∙◌, subst, refl, ◌≡◌, length, arith}
 use Rattle.std.proofs.lemmas.Option.{slice_get_read}
-use Rattle.types_spec.specs.types.Nodes.{IsBelow}
+use Rattle.types_spec.specs.types.TypeNodes.{IsBelow}
 use Rattle.types_table.specs.store.Instance.{argument_at, AreInstances}
-use Rattle.types_table.proofs.store.InstanceLemmas.{AreInstances-none, AreInstances-many, AreInstances-next, grown_next}
+use Rattle.types_table.proofs.store.StoreInstanceLemmas.{AreInstances-none, AreInstances-many, AreInstances-next, grown_next}
 use Rattle.types_table.proofs.store.instance.numbers_of.Goals as goal
 
 pub loop-node-init : goal.loop-node-init

@@ -1,5 +1,5 @@
 use Rattle.types_table.specs.contracts.store.stored_node.StoredNodeEq.TheImpl.Laws.{laws-law}
-use Rattle.types_table.proofs.store.HeldLemmas.{AreDistinct-keys}
+use Rattle.types_table.proofs.store.StoreHeldLemmas.{AreDistinct-keys}
 use Rattle.types_table.proofs.store.type_store.number_of.Goals as goal
 
 pub returns-in_err-number-clause-distinct : goal.returns-in_err-number-clause-distinct

@@ -1,4 +1,4 @@
-use Rattle.types_table.proofs.type_table.MadeLemmas.{made_is_lawful}
+use Rattle.types_table.proofs.type_table.TypeTableMadeLemmas.{made_is_lawful}
 use Rattle.types_table.proofs.type_table.laws.tables_are_lawful.Goals as goal
 
 pub returns : goal.returns

@@ -1,7 +1,7 @@
 use Rattle.std.proofs.Common.{◌++◌, ◌∙◌, ap, sym, arith}
-use Rattle.types_spec.specs.types.Nodes.{type_at}
-use Rattle.types_table.specs.type_table.Texts.{parts_text, added_text, waiting_text}
-use Rattle.types_table.proofs.type_table.TextLemmas.{part_waits, parts_text-whole, parts_text-none}
+use Rattle.types_spec.specs.types.TypeNodes.{type_at}
+use Rattle.types_table.specs.type_table.PrintedTypes.{parts_text, added_text, waiting_text}
+use Rattle.types_table.proofs.type_table.TypeTableTextLemmas.{part_waits, parts_text-whole, parts_text-none}
 use Rattle.types_table.proofs.type_table.waiting.push_parts.Goals as goal
 
 pub loop-whole-preserved : goal.loop-whole-preserved

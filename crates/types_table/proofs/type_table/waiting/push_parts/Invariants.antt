@@ -1,6 +1,6 @@
 use Rattle.std.proofs.Common.{◌≡◌, ◌<◌, ◌++◌, [], length, All}
-use Rattle.types_spec.specs.types.Nodes.{type_at}
-use Rattle.types_table.specs.type_table.Texts.{parts_text, waiting_text, IsWithin}
+use Rattle.types_spec.specs.types.TypeNodes.{type_at}
+use Rattle.types_table.specs.type_table.PrintedTypes.{parts_text, waiting_text, IsWithin}
 use Rattle.types_table.proofs.type_table.waiting.push_parts.Given as goal
 
 -- The parts before the current part are still to be pushed.

@@ -1,6 +1,6 @@
 use Rattle.std.proofs.Common.{arith, ◌∙◌}
-use Rattle.types_spec.specs.types.Nodes.{type_at}
-use Rattle.types_table.proofs.type_table.TextLemmas.{stem-whole}
+use Rattle.types_spec.specs.types.TypeNodes.{type_at}
+use Rattle.types_table.proofs.type_table.TypeTableTextLemmas.{stem-whole}
 use Rattle.types_table.proofs.type_table.waiting.stem_of.Goals as goal
 
 pub loop-whole-preserved : goal.loop-whole-preserved

@@ -1,6 +1,6 @@
 use Rattle.std.proofs.Common.{◌≡◌, ◌<◌, length}
-use Rattle.types_spec.specs.types.Nodes.{type_at}
-use Rattle.types_table.specs.type_table.Texts.{stem}
+use Rattle.types_spec.specs.types.TypeNodes.{type_at}
+use Rattle.types_table.specs.type_table.PrintedTypes.{stem}
 use Rattle.types_table.proofs.type_table.waiting.stem_of.Given as goal
 
 abbrev pub invariant-loop-whole : goal.invariant-loop-whole

@@ -1,4 +1,4 @@
-use Rattle.types_table.proofs.type_table.TextLemmas.{waiting_text-push}
+use Rattle.types_table.proofs.type_table.TypeTableTextLemmas.{waiting_text-push}
 use Rattle.types_table.proofs.type_table.waiting.wait.Goals as goal
 
 pub returns-clause-text : goal.returns-clause-text

@@ -1,7 +1,7 @@
 use Rattle.std.proofs.lemmas.Option.{slice_get_within}
 use Rattle.types_spec.specs.types.Table.{head_at}
 use Rattle.types_theory.proofs.equality.ClassLemmas.{stable_is_equal}
-use Rattle.types_theory.proofs.equality.NumberLemmas.{types_equal, numbers_equal, parts_below}
+use Rattle.types_theory.proofs.equality.EqualityNumberLemmas.{types_equal, numbers_equal, parts_below}
 use Rattle.types_theory.proofs.equality.classes.classes_are_of_equal_types.Goals as goal
 
 pub returns-clause-parts : goal.returns-clause-parts

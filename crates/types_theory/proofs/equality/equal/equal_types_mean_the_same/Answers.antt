@@ -1,4 +1,4 @@
-use Rattle.types_theory.proofs.equality.LawfulLemmas.{reached_lawful}
+use Rattle.types_theory.proofs.equality.EqualityLawfulLemmas.{reached_lawful}
 use Rattle.types_theory.proofs.equality.equal.equal_types_mean_the_same.Goals as goal
 
 pub returns : goal.returns

@@ -1,4 +1,4 @@
-use Rattle.types_theory.proofs.equality.NeedLemmas.{head_again, head_plain, only_head}
+use Rattle.types_theory.proofs.equality.EqualityNeedLemmas.{head_again, head_plain, only_head}
 use Rattle.types_theory.proofs.equality.RankedLemmas.{are_ranked}
 use Rattle.types_theory.proofs.equality.equal.heads_are_found.Goals as goal
 

@@ -1,6 +1,6 @@
 use Rattle.types_spec.specs.types.Table.{table_shapes}
-use Rattle.types_theory.proofs.typing.WayLemmas.{least_ways}
-use Rattle.types_theory.proofs.table.DecideLemmas.{tables_are_decidable}
+use Rattle.types_theory.proofs.typing.TypingWayLemmas.{least_ways}
+use Rattle.types_theory.proofs.table.TableDecideLemmas.{tables_are_decidable}
 use Rattle.types_theory.proofs.table.laws.least_faults_have_least_ways.Goals as goal
 
 pub returns : goal.returns

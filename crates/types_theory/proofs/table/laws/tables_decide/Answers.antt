@@ -1,4 +1,4 @@
-use Rattle.types_theory.proofs.table.DecideLemmas.{root_is_first, has_forth, has_back}
+use Rattle.types_theory.proofs.table.TableDecideLemmas.{root_is_first, has_forth, has_back}
 use Rattle.types_theory.proofs.table.laws.tables_decide.Goals as goal
 
 pub returns-clause-root : goal.returns-clause-root

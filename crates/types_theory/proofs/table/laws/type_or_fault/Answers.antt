@@ -1,10 +1,10 @@
 use Rattle.std.specs.Prelude.{Contains}
 use Rattle.types_spec.specs.types.Equal.{declared_shapes}
-use Rattle.types_spec.proofs.types.FaultLemmas.{fault_excludes_type}
-use Rattle.types_theory.proofs.equality.LawfulLemmas.{reached_lawful}
-use Rattle.types_theory.proofs.equality.ReachedLemmas.{root_listed}
-use Rattle.types_theory.proofs.equality.SoundLemmas.{known_by_hash}
-use Rattle.types_theory.proofs.table.DecideLemmas.{type_or_fault_lem}
+use Rattle.types_spec.proofs.types.TypeFaultLemmas.{fault_excludes_type}
+use Rattle.types_theory.proofs.equality.EqualityLawfulLemmas.{reached_lawful}
+use Rattle.types_theory.proofs.equality.EqualityReachedLemmas.{root_listed}
+use Rattle.types_theory.proofs.equality.EqualitySoundLemmas.{known_by_hash}
+use Rattle.types_theory.proofs.table.TableDecideLemmas.{type_or_fault_lem}
 use Rattle.types_theory.proofs.table.laws.type_or_fault.Goals as goal
 
 pub returns-clause-one : goal.returns-clause-one

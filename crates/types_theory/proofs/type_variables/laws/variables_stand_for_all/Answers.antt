@@ -1,7 +1,7 @@
-use Rattle.types_theory.proofs.equality.ReachedLemmas.{root_listed, reached_listed}
-use Rattle.types_theory.proofs.equality.SoundLemmas.{all_reached_sound}
-use Rattle.types_theory.proofs.table.DecideLemmas.{root_is_first, has_forth, has_back}
-use Rattle.types_theory.proofs.type_variables.StandLemmas.{stands_for_all, faults_are_of_instances}
+use Rattle.types_theory.proofs.equality.EqualityReachedLemmas.{root_listed, reached_listed}
+use Rattle.types_theory.proofs.equality.EqualitySoundLemmas.{all_reached_sound}
+use Rattle.types_theory.proofs.table.TableDecideLemmas.{root_is_first, has_forth, has_back}
+use Rattle.types_theory.proofs.type_variables.VariableStandLemmas.{stands_for_all, faults_are_of_instances}
 use Rattle.types_theory.proofs.type_variables.laws.variables_stand_for_all.Goals as goal
 
 pub returns-clause-types : goal.returns-clause-types

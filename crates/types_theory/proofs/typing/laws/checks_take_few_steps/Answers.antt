@@ -1,4 +1,4 @@
-use Rattle.types_theory.proofs.typing.StepLemmas.{steps_are_few}
+use Rattle.types_theory.proofs.typing.TypingStepLemmas.{steps_are_few}
 use Rattle.types_theory.proofs.typing.laws.checks_take_few_steps.Goals as goal
 
 pub returns : goal.returns

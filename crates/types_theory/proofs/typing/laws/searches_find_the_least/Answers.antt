@@ -1,5 +1,5 @@
 use Rattle.types_spec.specs.types.Table.{table_shapes}
-use Rattle.types_theory.proofs.typing.LeastLemmas.{mismatch_is_least, conflict_is_least}
+use Rattle.types_theory.proofs.typing.TypingLeastLemmas.{mismatch_is_least, conflict_is_least}
 use Rattle.types_theory.proofs.typing.laws.searches_find_the_least.Goals as goal
 
 pub returns-clause-mismatch : goal.returns-clause-mismatch

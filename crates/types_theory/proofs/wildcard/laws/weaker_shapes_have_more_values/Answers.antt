@@ -1,6 +1,6 @@
 use Rattle.types_spec.specs.types.Equal.{declared_shapes}
 use Rattle.types_spec.specs.types.Table.{table_shapes}
-use Rattle.types_theory.proofs.wildcard.WeakerLemmas.{has_still}
+use Rattle.types_theory.proofs.wildcard.WildcardWeakerLemmas.{has_still}
 use Rattle.types_theory.proofs.wildcard.laws.weaker_shapes_have_more_values.Goals as goal
 
 pub returns-clause-declared : goal.returns-clause-declared

@@ -1,8 +1,8 @@
 use Rattle.types_spec.specs.types.Equal.{declared_shapes}
 use Rattle.types_theory.specs.wildcard.Wildcard.{hide}
-use Rattle.types_theory.proofs.wildcard.WeakerLemmas.{has_still}
-use Rattle.types_theory.proofs.wildcard.HeadLemmas.{heads_wildcard}
-use Rattle.types_theory.proofs.wildcard.ShapeLemmas.{weaker}
+use Rattle.types_theory.proofs.wildcard.WildcardWeakerLemmas.{has_still}
+use Rattle.types_theory.proofs.wildcard.WildcardHeadLemmas.{heads_wildcard}
+use Rattle.types_theory.proofs.wildcard.WildcardShapeLemmas.{weaker}
 use Rattle.types_theory.proofs.wildcard.laws.wildcard_is_weaker.Goals as goal
 
 pub returns-clause-heads : goal.returns-clause-heads

@@ -1,4 +1,4 @@
-use Rattle.types_wellformed.proofs.accepted.BracketLemmas.{brackets_follow_lem}
+use Rattle.types_wellformed.proofs.accepted.AcceptedBracketLemmas.{brackets_follow_lem}
 use Rattle.types_wellformed.proofs.accepted.laws.brackets_follow.Goals as goal
 
 pub returns : goal.returns

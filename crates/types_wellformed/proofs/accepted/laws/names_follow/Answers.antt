@@ -1,4 +1,4 @@
-use Rattle.types_wellformed.proofs.accepted.NameLemmas.{names_follow_lem}
+use Rattle.types_wellformed.proofs.accepted.AcceptedNameLemmas.{names_follow_lem}
 use Rattle.types_wellformed.proofs.accepted.laws.names_follow.Goals as goal
 
 pub returns : goal.returns

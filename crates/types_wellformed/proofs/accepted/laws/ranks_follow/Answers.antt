@@ -1,4 +1,4 @@
-use Rattle.types_wellformed.proofs.accepted.RankLemmas.{ranks_follow_lem}
+use Rattle.types_wellformed.proofs.accepted.AcceptedRankLemmas.{ranks_follow_lem}
 use Rattle.types_wellformed.proofs.accepted.laws.ranks_follow.Goals as goal
 
 pub returns : goal.returns

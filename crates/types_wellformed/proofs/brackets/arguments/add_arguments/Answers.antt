@@ -1,7 +1,7 @@
 use Rattle.std.proofs.Common.{ℕ, List, ◌++◌, take, arith}
 use Rattle.types_spec.specs.declared.types.head.TagOf.{TagOf}
-use Rattle.types_wellformed.specs.brackets.Tables.{AreArguments}
-use Rattle.types_wellformed.proofs.brackets.TableLemmas.{arguments_added, more_of, all_of}
+use Rattle.types_wellformed.specs.brackets.TagTables.{AreArguments}
+use Rattle.types_wellformed.proofs.brackets.BracketTableLemmas.{arguments_added, more_of, all_of}
 use Rattle.types_wellformed.proofs.brackets.arguments.add_arguments.Goals as goal
 
 pub loop-tag-preserved : goal.loop-tag-preserved

@@ -1,8 +1,8 @@
 use Rattle.std.proofs.Common.{ℕ, List, sym, refl, arith}
 use Rattle.std.proofs.lemmas.Bool.{false≢true}
 use Rattle.types_spec.specs.declared.types.head.TagOf.{TagOf}
-use Rattle.types_wellformed.specs.brackets.Tables.{SomeConflicts}
-use Rattle.types_wellformed.proofs.brackets.TableLemmas.{argument_says, no_conflict, some_conflict, all_of}
+use Rattle.types_wellformed.specs.brackets.TagTables.{SomeConflicts}
+use Rattle.types_wellformed.proofs.brackets.BracketTableLemmas.{argument_says, no_conflict, some_conflict, all_of}
 use Rattle.types_wellformed.proofs.brackets.arguments.conflicts.Goals as goal
 
 pub loop-tag-preserved : goal.loop-tag-preserved

@@ -1,9 +1,9 @@
 use Rattle.std.proofs.Common.{ℕ, List, ◌++◌, subst, arith}
 use Rattle.std.specs.Prelude.{IsTrue, ◌↔◌}
 use Rattle.types_spec.specs.declared.types.head.TagOf.{TagOf}
-use Rattle.types_wellformed.specs.brackets.Tables.{AreArguments, SomeConflicts}
+use Rattle.types_wellformed.specs.brackets.TagTables.{AreArguments, SomeConflicts}
 use Rattle.types_wellformed.proofs.brackets.BracketLemmas.{no_conflicts, more_conflicts, all_conflicts}
-use Rattle.types_wellformed.proofs.brackets.TreeLemmas.{least_conflict_of}
+use Rattle.types_wellformed.proofs.brackets.BracketTreeLemmas.{least_conflict_of}
 use Rattle.types_wellformed.proofs.brackets.arguments.least_conflict.Goals as goal
 
 pub loop-item-init : goal.loop-item-init

@@ -2,8 +2,8 @@ use Rattle.std.proofs.Common.{to_z, of_z, w64, rules, FitsSigned}
 use Rattle.std.proofs.lemmas.Int.{to_z-of_z}
 use Rattle.std.proofs.Common.{ℕ, List, ◌++◌, take, arith, ◌∙◌}
 use Rattle.types_spec.specs.declared.types.head.TagOf.{TagOf}
-use Rattle.types_wellformed.specs.brackets.Tables.{AreTagNames}
-use Rattle.types_wellformed.proofs.brackets.TableLemmas.{tag_names_added, more_of, all_of}
+use Rattle.types_wellformed.specs.brackets.TagTables.{AreTagNames}
+use Rattle.types_wellformed.proofs.brackets.BracketTableLemmas.{tag_names_added, more_of, all_of}
 use Rattle.types_wellformed.proofs.brackets.tag_names.add_tag_names.Goals as goal
 
 pub loop-tag-preserved : goal.loop-tag-preserved

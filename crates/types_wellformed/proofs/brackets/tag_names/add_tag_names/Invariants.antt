@@ -1,6 +1,6 @@
 use Rattle.std.proofs.Common.{ℕ, ◌++◌, List, take}
 use Rattle.types_spec.specs.declared.types.head.TagOf.{TagOf}
-use Rattle.types_wellformed.specs.brackets.Tables.{AreTagNames}
+use Rattle.types_wellformed.specs.brackets.TagTables.{AreTagNames}
 use Rattle.types_wellformed.proofs.brackets.tag_names.add_tag_names.Given as goal
 
 abbrev pub invariant-loop-tag : goal.invariant-loop-tag

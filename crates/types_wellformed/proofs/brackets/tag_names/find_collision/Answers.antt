@@ -2,8 +2,8 @@ use Rattle.std.proofs.Common.{to_z, of_z, w64, rules, FitsSigned}
 use Rattle.std.proofs.lemmas.Int.{to_z-of_z}
 use Rattle.std.proofs.Common.{ℕ, List, ◌∙◌, sym, refl, arith, Some, None}
 use Rattle.types_spec.specs.declared.types.head.TagOf.{TagOf}
-use Rattle.types_wellformed.specs.brackets.Tables.{AreColliding}
-use Rattle.types_wellformed.proofs.brackets.TableLemmas.{encoding_says, no_collision, some_collision, all_of}
+use Rattle.types_wellformed.specs.brackets.TagTables.{AreColliding}
+use Rattle.types_wellformed.proofs.brackets.BracketTableLemmas.{encoding_says, no_collision, some_collision, all_of}
 use Rattle.types_wellformed.proofs.brackets.tag_names.find_collision.Goals as goal
 
 pub loop-tag-preserved : goal.loop-tag-preserved

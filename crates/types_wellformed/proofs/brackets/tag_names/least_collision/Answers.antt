@@ -1,9 +1,9 @@
 use Rattle.std.proofs.Common.{ℕ, List, ◌++◌, ◌≡◌, subst, arith}
 use Rattle.std.specs.Prelude.{MatchOption}
 use Rattle.types_spec.specs.declared.types.head.TagOf.{TagOf}
-use Rattle.types_wellformed.specs.brackets.Tables.{AreTagNames, AreColliding}
+use Rattle.types_wellformed.specs.brackets.TagTables.{AreTagNames, AreColliding}
 use Rattle.types_wellformed.proofs.brackets.BracketLemmas.{no_collisions, more_collisions, all_collisions}
-use Rattle.types_wellformed.proofs.brackets.TreeLemmas.{least_position_of, least_names_of}
+use Rattle.types_wellformed.proofs.brackets.BracketTreeLemmas.{least_position_of, least_names_of}
 use Rattle.types_wellformed.proofs.brackets.tag_names.least_collision.Goals as goal
 
 pub loop-item-init : goal.loop-item-init

@@ -1,23 +1,23 @@
 use Rattle.std.proofs.Common.{ℕ, ◌≡◌, ◌∙◌, List, length, Option, Some, None, sym, ap, subst}
 use Rattle.types_lex.specs.declared.lexeme.Lexeme.{Lexeme}
-use Rattle.types_spec.specs.types.Accepted.{AreSound, AreWellFormed}
+use Rattle.types_spec.specs.types.WellFormed.{AreSound, AreWellFormed}
 use Rattle.types_spec.specs.types.Occurrence.{DeclPositions}
 use Rattle.types_spec.specs.types.Scope.{Rule, BreaksInFile}
 use Rattle.types_spec.specs.declared.types.decl.Decl.{Decl}
 use Rattle.types_parse.specs.grammar.Depths.{file_ends}
 use Rattle.types_parse.specs.grammar.Grammar.{FileTree, file_kinds}
-use Rattle.types_parse.specs.grammar.Lexemes.{kinds_of}
+use Rattle.types_parse.specs.grammar.LexemeKinds.{kinds_of}
 use Rattle.types_resolve.specs.occurrences.CountedFile.{counted_file}
 use Rattle.types_resolve.specs.occurrences.InFile.{file_positions}
 use Rattle.types_wellformed.specs.declared.head_rules.broken.HeadBreak.{HeadBreak}
 use Rattle.types_wellformed.specs.head_rules.Broken.{IsFirstOfHeads, FileHashes}
-use Rattle.types_wellformed.proofs.declarations.FileLemmas.{names_sound, files_well_formed}
-use Rattle.types_wellformed.specs.declarations.Answer.{IsFileAnswer}
-use Rattle.types_wellformed.specs.declarations.Fault.{head_at, IsRefused, HasFileNames}
+use Rattle.types_wellformed.proofs.declarations.DeclarationFileLemmas.{names_sound, files_well_formed}
+use Rattle.types_wellformed.specs.declarations.DeclarationAnswer.{IsFileAnswer}
+use Rattle.types_wellformed.specs.declarations.DeclarationFault.{head_at, IsRefused, HasFileNames}
 use Rattle.types_wellformed.specs.declarations.Named.{IsNamed}
-use Rattle.types_wellformed.specs.declared.declarations.read.Named.{Named}
-use Rattle.types_wellformed.proofs.declarations.HeadLemmas.{all_kept, heads_refuse, heads_named, heads_accept}
-use Rattle.types_wellformed.proofs.declarations.ReadLemmas.{positions_are}
+use Rattle.types_wellformed.specs.declared.declarations.named_declarations.Named.{Named}
+use Rattle.types_wellformed.proofs.declarations.DeclarationHeadLemmas.{all_kept, heads_refuse, heads_named, heads_accept}
+use Rattle.types_wellformed.proofs.declarations.DeclarationReadLemmas.{positions_are}
 use Rattle.types_wellformed.proofs.declarations.accept.read_decls.Goals as goal
 
 abbrev Breaks : FileTree → Rule → ℕ → Type 0

@@ -1,6 +1,6 @@
 use Rattle.std.proofs.Common.{ℕ, ◌≡◌, ◌∙◌, List, length, Option, Some, None, sym, ap, subst, false}
 use Rattle.types_lex.specs.declared.lexeme.Lexeme.{Lexeme}
-use Rattle.types_spec.specs.types.Accepted.{IsSoundType}
+use Rattle.types_spec.specs.types.WellFormed.{IsSoundType}
 use Rattle.types_spec.specs.types.Occurrence.{Occurrence}
 use Rattle.types_spec.specs.types.Scope.{Rule, BreaksInType}
 use Rattle.types_spec.specs.declared.types.decl.Decl.{Decl}
@@ -10,13 +10,13 @@ use Rattle.types_resolve.specs.occurrences.Counted.{in_type}
 use Rattle.types_resolve.specs.occurrences.InText.{in_texpr}
 use Rattle.types_wellformed.specs.declared.head_rules.broken.HeadBreak.{HeadBreak}
 use Rattle.types_wellformed.specs.head_rules.Broken.{IsFirstOfHeads, TypeHashes}
-use Rattle.types_wellformed.proofs.declarations.SoundLemmas.{types_sound}
-use Rattle.types_wellformed.specs.declarations.Answer.{IsTypeAnswer}
-use Rattle.types_wellformed.specs.declarations.Fault.{head_at, IsRefused, HasTypeNames}
+use Rattle.types_wellformed.proofs.declarations.DeclarationSoundLemmas.{types_sound}
+use Rattle.types_wellformed.specs.declarations.DeclarationAnswer.{IsTypeAnswer}
+use Rattle.types_wellformed.specs.declarations.DeclarationFault.{head_at, IsRefused, HasTypeNames}
 use Rattle.types_wellformed.specs.declarations.Named.{IsNamedType}
-use Rattle.types_wellformed.specs.declared.declarations.read.NamedType.{NamedType}
-use Rattle.types_wellformed.proofs.declarations.HeadLemmas.{all_kept, heads_refuse, heads_named, heads_accept}
-use Rattle.types_wellformed.proofs.declarations.ReadLemmas.{occurrences_are}
+use Rattle.types_wellformed.specs.declared.declarations.named_declarations.NamedType.{NamedType}
+use Rattle.types_wellformed.proofs.declarations.DeclarationHeadLemmas.{all_kept, heads_refuse, heads_named, heads_accept}
+use Rattle.types_wellformed.proofs.declarations.DeclarationReadLemmas.{occurrences_are}
 use Rattle.types_wellformed.proofs.declarations.accept.read_type.Goals as goal
 
 abbrev Breaks : List Decl → Texpr → Rule → ℕ → Type 0

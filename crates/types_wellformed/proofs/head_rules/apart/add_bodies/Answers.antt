@@ -1,10 +1,10 @@
-use Rattle.types_table.proofs.store.HeldLemmas.{Grows-then}
+use Rattle.types_table.proofs.store.StoreHeldLemmas.{Grows-then}
 use Rattle.std.proofs.Common.{take, subst}
 use Rattle.std.specs.Prelude.{All}
 use Rattle.std.proofs.lemmas.List.{take_all}
 use Rattle.types_wellformed.specs.head_rules.Apart.{HasBody}
-use Rattle.types_wellformed.proofs.head_rules.ApartLemmas.{bodies_kept}
-use Rattle.types_wellformed.proofs.head_rules.LoopLemmas.{all_more}
+use Rattle.types_wellformed.proofs.head_rules.HeadRuleApartLemmas.{bodies_kept}
+use Rattle.types_wellformed.proofs.head_rules.HeadRuleLoopLemmas.{all_more}
 use Rattle.types_wellformed.proofs.head_rules.apart.add_bodies.Goals as goal
 
 pub loop-decl-preserved : goal.loop-decl-preserved

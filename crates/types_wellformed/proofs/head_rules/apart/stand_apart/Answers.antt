@@ -3,7 +3,7 @@ use Rattle.std.specs.Prelude.{IsTrue, IfSome}
 use Rattle.std.proofs.lemmas.Result.{IfOk-weaker}
 use Rattle.types_wellformed.specs.declared.brackets.tag_item.TagItem.{TagItem}
 use Rattle.types_wellformed.specs.head_rules.Apart.{AreListed, NoneConflict, StandApart}
-use Rattle.types_wellformed.proofs.head_rules.ApartLemmas.{all_apart}
+use Rattle.types_wellformed.proofs.head_rules.HeadRuleApartLemmas.{all_apart}
 use Rattle.types_wellformed.proofs.head_rules.apart.stand_apart.Goals as goal
 
 pub returns-in-Some-clause-ok : goal.returns-in-Some-clause-ok

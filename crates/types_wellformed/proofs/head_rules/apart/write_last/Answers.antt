@@ -1,5 +1,5 @@
 use Rattle.std.proofs.Common.{◌<◌, length, arith}
-use Rattle.types_wellformed.proofs.head_rules.ApartLemmas.{known_true, tag_listed, tag_of_listed, other_listed}
+use Rattle.types_wellformed.proofs.head_rules.HeadRuleApartLemmas.{known_true, tag_listed, tag_of_listed, other_listed}
 use Rattle.types_wellformed.proofs.head_rules.apart.write_last.Goals as goal
 
 pub returns-in_ok-write_item-in-Tag : goal.returns-in_ok-write_item-in-Tag

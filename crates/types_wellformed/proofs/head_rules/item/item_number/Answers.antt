@@ -1,5 +1,5 @@
 use Rattle.types_spec.specs.types.Ty.{tuple}
-use Rattle.types_wellformed.proofs.head_rules.NumberedLemmas.{none_item, held_item, held_there}
+use Rattle.types_wellformed.proofs.head_rules.HeadRuleNumberedLemmas.{none_item, held_item, held_there}
 use Rattle.types_wellformed.proofs.head_rules.item.item_number.Goals as goal
 
 pub returns-else-n-nodes-clause-ok : goal.returns-else-n-nodes-clause-ok

@@ -1,10 +1,10 @@
 use Rattle.std.proofs.Common.{◌<◌, ◌∙◌, length, arith, ap, sym}
 use Rattle.std.specs.Prelude.{slice_index}
-use Rattle.types_spec.specs.types.Nodes.{type_at}
+use Rattle.types_spec.specs.types.TypeNodes.{type_at}
 use Rattle.types_spec.specs.types.Ty.{bracket, tag, tag_of}
-use Rattle.types_table.proofs.store.HeldLemmas.{Grows-none}
-use Rattle.types_wellformed.proofs.head_rules.NumberedLemmas.{number_below, entry_below, argument_below, included_below}
-use Rattle.types_wellformed.proofs.head_rules.NumberedLemmas.{tag_item, tag_of_item, including_item, other_item, held_item}
+use Rattle.types_table.proofs.store.StoreHeldLemmas.{Grows-none}
+use Rattle.types_wellformed.proofs.head_rules.HeadRuleNumberedLemmas.{number_below, entry_below, argument_below, included_below}
+use Rattle.types_wellformed.proofs.head_rules.HeadRuleNumberedLemmas.{tag_item, tag_of_item, including_item, other_item, held_item}
 use Rattle.types_wellformed.proofs.head_rules.item.node_number.Goals as goal
 
 pub bounds-numbers-a : goal.bounds-numbers-a

@@ -1,9 +1,9 @@
 use Rattle.std.proofs.Common.{◌≡◌, List, map, subst}
-use Rattle.types_table.proofs.store.HeldLemmas.{Grows-then}
+use Rattle.types_table.proofs.store.StoreHeldLemmas.{Grows-then}
 use Rattle.types_wellformed.specs.brackets.Trees.{typed_item, written_item}
 use Rattle.types_wellformed.specs.declared.head_rules.item.NumberedItem.{NumberedItem}
 use Rattle.types_wellformed.specs.head_rules.Rules.{items_at}
-use Rattle.types_wellformed.proofs.head_rules.TagLemmas.{more_brackets}
+use Rattle.types_wellformed.proofs.head_rules.HeadRuleTagLemmas.{more_brackets}
 use Rattle.types_wellformed.proofs.head_rules.tags.all_tagged.Goals as goal
 
 pub loop-items-preserved : goal.loop-items-preserved

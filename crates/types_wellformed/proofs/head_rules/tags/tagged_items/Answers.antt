@@ -1,8 +1,8 @@
 use Rattle.std.proofs.Common.{◌∙◌, ap, map, refl}
 use Rattle.std.specs.Prelude.{slice_get}
 use Rattle.types_spec.specs.types.Table.{tag_with_part}
-use Rattle.types_table.proofs.store.HeldLemmas.{Grows-then}
-use Rattle.types_wellformed.proofs.head_rules.TagLemmas.{head_tags, more_tagged}
+use Rattle.types_table.proofs.store.StoreHeldLemmas.{Grows-then}
+use Rattle.types_wellformed.proofs.head_rules.HeadRuleTagLemmas.{head_tags, more_tagged}
 use Rattle.types_wellformed.proofs.head_rules.tags.tagged_items.Goals as goal
 
 pub loop-item-preserved : goal.loop-item-preserved

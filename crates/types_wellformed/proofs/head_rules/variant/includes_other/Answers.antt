@@ -1,4 +1,4 @@
-use Rattle.types_table.proofs.store.HeldLemmas.{Grows-none}
+use Rattle.types_table.proofs.store.StoreHeldLemmas.{Grows-none}
 use Rattle.types_wellformed.proofs.head_rules.VariantLemmas.{none_included}
 use Rattle.types_wellformed.proofs.head_rules.variant.includes_other.Goals as goal
 

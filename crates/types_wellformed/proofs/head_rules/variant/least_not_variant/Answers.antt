@@ -1,7 +1,7 @@
 use Rattle.std.proofs.Common.{List, subst, arith}
 use Rattle.types_resolve.specs.scope.Least.{IsLeast}
-use Rattle.types_resolve.proofs.scope.LeastLemmas.{more_items, all_items}
-use Rattle.types_table.proofs.store.HeldLemmas.{Grows-then}
+use Rattle.types_resolve.proofs.scope.ScopeLeastLemmas.{more_items, all_items}
+use Rattle.types_table.proofs.store.StoreHeldLemmas.{Grows-then}
 use Rattle.types_wellformed.specs.declared.head_rules.item.NumberedItem.{NumberedItem}
 use Rattle.types_wellformed.specs.head_rules.Rules.{ItemsInclude}
 use Rattle.types_wellformed.proofs.head_rules.VariantLemmas.{include_kept}

@@ -1,5 +1,5 @@
 use Rattle.types_resolve.specs.scope.Least.{IsLeast}
-use Rattle.types_resolve.proofs.scope.LeastLemmas.{Before, AtItem}
+use Rattle.types_resolve.proofs.scope.ScopeLeastLemmas.{Before, AtItem}
 use Rattle.types_table.specs.store.Held.{Grows}
 use Rattle.types_wellformed.specs.head_rules.Rules.{ItemsInclude}
 use Rattle.types_wellformed.proofs.head_rules.variant.least_not_variant.Given as goal

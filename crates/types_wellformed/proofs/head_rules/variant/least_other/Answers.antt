@@ -1,6 +1,6 @@
 use Rattle.std.proofs.Common.{arith}
-use Rattle.types_resolve.proofs.scope.LeastLemmas.{all_items}
-use Rattle.types_table.proofs.store.HeldLemmas.{Grows-then}
+use Rattle.types_resolve.proofs.scope.ScopeLeastLemmas.{all_items}
+use Rattle.types_table.proofs.store.StoreHeldLemmas.{Grows-then}
 use Rattle.types_wellformed.specs.head_rules.Rules.{IncludesOtherAt}
 use Rattle.types_wellformed.proofs.head_rules.VariantLemmas.{more_other}
 use Rattle.types_wellformed.proofs.head_rules.variant.least_other.Goals as goal

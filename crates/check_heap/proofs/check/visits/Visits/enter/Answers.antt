@@ -2,9 +2,9 @@ use Rattle.std.proofs.Common.{suc, ◌≡◌, ◌∙◌, inr, sym, ap, arith}
 use Rattle.std.specs.Prelude.{slice_set}
 use Rattle.types_table.specs.type_table.Made.{table_of}
 use Rattle.check_heap.specs.check.Visits.{listed}
-use Rattle.check_heap.proofs.scan.PositionLemmas.{read_at}
+use Rattle.check_heap.proofs.scan.ScanPositionLemmas.{read_at}
 use Rattle.check_heap.specs.scan.Classed.{Has}
-use Rattle.check_heap.proofs.check.NotedLemmas.{met_never, linked_first}
+use Rattle.check_heap.proofs.check.CheckNotedLemmas.{met_never, linked_first}
 use Rattle.check_heap.proofs.check.visits.Visits.enter.Goals as goal
 
 pub returns-then-first-eq0-clause-linked : goal.returns-then-first-eq0-clause-linked

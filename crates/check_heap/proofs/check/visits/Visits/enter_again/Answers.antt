@@ -4,8 +4,8 @@ use Rattle.std.proofs.lemmas.Option.{same_Some}
 use Rattle.types_table.specs.type_table.Made.{table_of}
 use Rattle.check_heap.specs.check.Visits.{listed, IsMet}
 use Rattle.check_heap.specs.scan.Classed.{Has, Inserts}
-use Rattle.check_heap.proofs.scan.PositionLemmas.{read_at}
-use Rattle.check_heap.proofs.check.NotedLemmas.{met_first, met_nowhere, linked_later, linked_known, first_classed}
+use Rattle.check_heap.proofs.scan.ScanPositionLemmas.{read_at}
+use Rattle.check_heap.proofs.check.CheckNotedLemmas.{met_first, met_nowhere, linked_later, linked_known, first_classed}
 use Rattle.check_heap.proofs.check.visits.Visits.enter_again.Goals as goal
 
 pub class-requires : goal.class-requires

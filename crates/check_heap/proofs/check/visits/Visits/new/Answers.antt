@@ -1,6 +1,6 @@
 use Rattle.std.proofs.Common.{length, refl}
 use Rattle.types_table.specs.type_table.Made.{table_of}
-use Rattle.check_heap.proofs.check.NotedLemmas.{linked_none}
+use Rattle.check_heap.proofs.check.CheckNotedLemmas.{linked_none}
 use Rattle.check_heap.proofs.check.visits.Visits.new.Goals as goal
 
 pub enter-requires-clause-linked : goal.enter-requires-clause-linked

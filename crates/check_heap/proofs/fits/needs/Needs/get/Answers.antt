@@ -1,7 +1,7 @@
 use Rattle.std.proofs.Common.{◌<◌, ◌∙◌, length, ap, subst, arith}
 use Rattle.std.specs.Prelude.{slice_get}
 use Rattle.check_heap.specs.fits.Needs.{needs_in}
-use Rattle.check_heap.proofs.fits.NeedLemmas.{length-numbered, length-each, slice_get-numbered, slice_get-replicate}
+use Rattle.check_heap.proofs.fits.FitsNeedLemmas.{length-numbered, length-each, slice_get-numbered, slice_get-replicate}
 use Rattle.std.specs.Prelude.{replicate}
 use Rattle.check_heap.proofs.fits.needs.Needs.get.Goals as goal
 

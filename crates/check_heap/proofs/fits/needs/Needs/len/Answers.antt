@@ -1,6 +1,6 @@
 use Rattle.std.proofs.Common.{◌∙◌, length, sym, ap}
 use Rattle.check_heap.specs.fits.Needs.{needs_in}
-use Rattle.check_heap.proofs.fits.NeedLemmas.{length-numbered, length-each}
+use Rattle.check_heap.proofs.fits.FitsNeedLemmas.{length-numbered, length-each}
 use Rattle.check_heap.proofs.fits.needs.Needs.len.Goals as goal
 
 pub returns-in-Listed : goal.returns-in-Listed

@@ -2,7 +2,7 @@ use Rattle.std.proofs.Common.{◌∙◌, ap, sym}
 use Rattle.std.specs.Prelude.{replicate}
 use Rattle.types_spec.specs.types.Fault.{type_of_field}
 use Rattle.check_heap.specs.fits.Needs.{needs_in}
-use Rattle.check_heap.proofs.fits.NeedLemmas.{type_of_field-numbered, slice_get-replicate, slice_get-replicate_past}
+use Rattle.check_heap.proofs.fits.FitsNeedLemmas.{type_of_field-numbered, slice_get-replicate, slice_get-replicate_past}
 use Rattle.check_heap.proofs.fits.needs.Needs.type_of.Goals as goal
 
 pub returns-in-Listed : goal.returns-in-Listed

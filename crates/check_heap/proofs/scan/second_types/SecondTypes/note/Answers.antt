@@ -2,7 +2,7 @@ use Rattle.std.proofs.Common.{inl, inr, refl, subst}
 use Rattle.std.specs.Prelude.{MatchBool}
 use Rattle.types_table.specs.type_table.Made.{table_of}
 use Rattle.check_heap.specs.scan.Classed.{Has}
-use Rattle.check_heap.proofs.scan.SecondLemmas.{second_there, second_known, seconds_same, seconds_more}
+use Rattle.check_heap.proofs.scan.ScanSecondLemmas.{second_there, second_known, seconds_same, seconds_more}
 use Rattle.check_heap.proofs.scan.second_types.SecondTypes.note.Goals as goal
 
 pub returns-then-not-branch-clause-seconds : goal.returns-then-not-branch-clause-seconds

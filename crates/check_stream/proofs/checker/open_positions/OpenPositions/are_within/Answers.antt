@@ -1,9 +1,9 @@
 use Rattle.std.proofs.Common.{◌+◌, ◌≡◌, drop, subst, arith, []}
 use Rattle.std.proofs.lemmas.List.{drop_all}
-use Rattle.check_stream.specs.theory.Asked.{values_in}
-use Rattle.check_stream.proofs.theory.EndLemmas.{values_in-append}
-use Rattle.check_stream.specs.checker.Positions.{open_needs, waiting_needs}
-use Rattle.check_stream.proofs.checker.PositionLemmas.{values_less}
+use Rattle.check_stream.specs.theory.AskedNeeds.{values_in}
+use Rattle.check_stream.proofs.theory.OnePassEndLemmas.{values_in-append}
+use Rattle.check_stream.specs.checker.OpenPositions.{open_needs, waiting_needs}
+use Rattle.check_stream.proofs.checker.CheckerPositionLemmas.{values_less}
 use Rattle.check_stream.proofs.checker.open_positions.OpenPositions.are_within.Goals as goal
 
 pub waiting-preserved : goal.waiting-preserved

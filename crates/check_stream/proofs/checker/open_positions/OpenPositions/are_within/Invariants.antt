@@ -1,6 +1,6 @@
 use Rattle.std.proofs.Common.{◌+◌, ◌≡◌, drop}
-use Rattle.check_stream.specs.theory.Asked.{values_in}
-use Rattle.check_stream.specs.checker.Positions.{open_needs, waiting_needs}
+use Rattle.check_stream.specs.theory.AskedNeeds.{values_in}
+use Rattle.check_stream.specs.checker.OpenPositions.{open_needs, waiting_needs}
 use Rattle.check_stream.proofs.checker.open_positions.OpenPositions.are_within.Given as goal
 
 -- The values counted so far and the values still allowed add up to the limit.

@@ -1,11 +1,11 @@
 use Rattle.std.proofs.Common.{◌+◌, ◌∙◌, [], ◌∷◌, ◌++◌, refl, sym, subst, arith}
 use Rattle.cli_spec.specs.declared.exit.Exit.TheVariants.{Memory as out_of_memory}
-use Rattle.base_io.specs.State.{change}
-use Rattle.run_spec.proofs.runs.WriteLemmas.{writes_nothing}
-use Rattle.cli_errors.specs.declared.exit.Error.TheVariants as aborts
-use Rattle.run_types.specs.Types.{type_over}
-use Rattle.cmd_build.specs.command.Lines.{declared_texts}
-use Rattle.cmd_build.specs.command.Steps.{HasTexts}
+use Rattle.base_io.specs.StreamState.{change}
+use Rattle.run_spec.proofs.runs.RunWriteLemmas.{writes_nothing}
+use Rattle.cli_errors.specs.declared.exit_line.Error.TheVariants as aborts
+use Rattle.run_types.specs.RequestedTexts.{type_over}
+use Rattle.cmd_build.specs.command.InputLines.{declared_texts}
+use Rattle.cmd_build.specs.command.LineSteps.{HasTexts}
 use Rattle.cmd_build.proofs.command.TextsLemmas.{lines_few, texts_few, line_taken, line_memory, line_aborts, takes_error}
 use Rattle.cmd_build.proofs.command.build_state.BuildState.take_line.Goals as goal
 

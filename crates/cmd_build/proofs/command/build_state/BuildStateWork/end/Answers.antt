@@ -1,11 +1,11 @@
 use Rattle.std.proofs.Common.{◌+◌, Ok, refl, subst, arith}
-use Rattle.base_io.specs.State.{change}
-use Rattle.run_loop.proofs.work.ChunkLemmas.{ends_error}
+use Rattle.base_io.specs.StreamState.{change}
+use Rattle.run_loop.proofs.work.WorkChunkLemmas.{ends_error}
 use Rattle.run_types.specs.Language.{declared_types}
-use Rattle.run_types.specs.Types.{type_over}
-use Rattle.cmd_build.specs.spec.Texts.{building}
-use Rattle.cmd_build.specs.command.Lines.{declared_texts}
-use Rattle.cmd_build.specs.command.Steps.{AbortsAtLine, WritesLine, HasTexts}
+use Rattle.run_types.specs.RequestedTexts.{type_over}
+use Rattle.cmd_build.specs.spec.InputTexts.{building}
+use Rattle.cmd_build.specs.command.InputLines.{declared_texts}
+use Rattle.cmd_build.specs.command.LineSteps.{AbortsAtLine, WritesLine, HasTexts}
 use Rattle.cmd_build.proofs.command.TextsLemmas.{lines_few, texts_few, ends_ok, ends_error_at}
 use Rattle.cmd_build.proofs.command.build_state.BuildStateWork.end.Goals as goal
 

@@ -1,18 +1,18 @@
 use Rattle.std.proofs.Common.{◌+◌, [], ◌∷◌, ◌++◌, drop, inr, refl, sym, subst, arith}
 use Rattle.cli_spec.specs.declared.exit.Exit.TheVariants.{Memory as out_of_memory}
 use Rattle.base_io.specs.Sink.{Writes}
-use Rattle.base_io.specs.State.{change}
-use Rattle.run_spec.proofs.runs.WriteLemmas.{writes_nothing}
-use Rattle.run_spec.proofs.runs.ValueLemmas.{texts_of-one}
-use Rattle.cli_errors.specs.declared.exit.Error.TheVariants as aborts
+use Rattle.base_io.specs.StreamState.{change}
+use Rattle.run_spec.proofs.runs.RunWriteLemmas.{writes_nothing}
+use Rattle.run_spec.proofs.runs.RunValueLemmas.{texts_of-one}
+use Rattle.cli_errors.specs.declared.exit_line.Error.TheVariants as aborts
 use Rattle.run_loop.specs.work.Works.{AbortsIn}
-use Rattle.run_loop.proofs.work.ChunkLemmas.{feeds_error}
+use Rattle.run_loop.proofs.work.WorkChunkLemmas.{feeds_error}
 use Rattle.run_types.specs.Language.{declared_types}
-use Rattle.run_types.specs.Types.{type_over}
-use Rattle.cmd_build.specs.spec.Texts.{building}
-use Rattle.cmd_build.specs.command.Lines.{declared_texts}
-use Rattle.cmd_build.specs.command.Steps.{HasTexts}
-use Rattle.cmd_build.proofs.command.FeedLemmas.{feed_at, take_whole}
+use Rattle.run_types.specs.RequestedTexts.{type_over}
+use Rattle.cmd_build.specs.spec.InputTexts.{building}
+use Rattle.cmd_build.specs.command.InputLines.{declared_texts}
+use Rattle.cmd_build.specs.command.LineSteps.{HasTexts}
+use Rattle.cmd_build.proofs.command.BuildFeedLemmas.{feed_at, take_whole}
 use Rattle.cmd_build.proofs.command.TextsLemmas.{texts_hold, texts_go_on, unbroken_by}
 use Rattle.cmd_build.proofs.command.build_state.BuildStateWork.feed.Goals as goal
 

@@ -1,11 +1,11 @@
 use Rattle.std.proofs.Common.{ℕ, List, subst}
 use Rattle.base_io.specs.Sink.{Writes, WritesPart}
-use Rattle.base_io.specs.State.{change}
-use Rattle.cli_errors.specs.declared.exit.Error.TheVariants as aborts
-use Rattle.run_loop.proofs.work.ChunkLemmas.{ends_error}
+use Rattle.base_io.specs.StreamState.{change}
+use Rattle.cli_errors.specs.declared.exit_line.Error.TheVariants as aborts
+use Rattle.run_loop.proofs.work.WorkChunkLemmas.{ends_error}
 use Rattle.run_types.specs.Language.{declared_types}
 use Rattle.cmd_gen.specs.spec.GenSpec.{gen_spec}
-use Rattle.cmd_gen.specs.command.Lines.{output_of, making_of, HasNothing}
+use Rattle.cmd_gen.specs.command.OutputLines.{output_of, making_of, HasNothing}
 use Rattle.cmd_gen.proofs.command.MakingLemmas.{ends_line, ends_part}
 use Rattle.cmd_gen.proofs.command.making.GeneratingWork.end.Goals as goal
 

@@ -4,7 +4,7 @@ use Rattle.base_data.specs.declared.model.value.Obj.TheVariants as objects
 use Rattle.marshal_heap.specs.heap.Stored.{decode, IsStored}
 use Rattle.marshal_heap.proofs.heap.StoredLemmas.{held}
 use Rattle.marshal_heap.proofs.heap.ChangeLemmas.{positions_below, many_positions, made}
-use Rattle.marshal_heap.specs.heap.Words.{header}
+use Rattle.marshal_heap.specs.heap.ObjectWords.{header}
 use Rattle.marshal_heap.proofs.heap.NewLemmas.{IsNew-block}
 use Rattle.marshal_heap.proofs.heap.heap.Heap.add_block.Goals as goal
 

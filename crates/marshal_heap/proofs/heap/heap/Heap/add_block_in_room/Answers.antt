@@ -2,13 +2,13 @@ use Rattle.std.proofs.Common.{◌≡◌, ℕ, ◌*◌, List, [], ◌∷◌, ◌+
 use Rattle.base_data.specs.declared.model.value.Val.TheVariants as vals
 use Rattle.base_data.specs.declared.model.value.Obj.{Obj}
 use Rattle.base_data.specs.declared.model.value.Obj.TheVariants as objects
-use Rattle.marshal_heap.specs.heap.Words.{header}
+use Rattle.marshal_heap.specs.heap.ObjectWords.{header}
 use Rattle.marshal_heap.specs.heap.Heap.{word_of}
 use Rattle.marshal_heap.specs.heap.Stored.{decode, IsStored}
 use Rattle.marshal_heap.proofs.heap.StoredLemmas.{held}
 use Rattle.marshal_heap.proofs.heap.ChangeLemmas.{positions_below, many_words, made}
 use Rattle.marshal_heap.proofs.heap.NewLemmas.{IsNew-block}
-use Rattle.marshal_heap.proofs.heap.ReadLemmas.{word_of-next}
+use Rattle.marshal_heap.proofs.heap.HeapReadLemmas.{word_of-next}
 use Rattle.marshal_heap.proofs.heap.heap.Heap.add_block_in_room.Goals as goal
 
 pub begin_in_room-requires : goal.begin_in_room-requires

@@ -5,7 +5,7 @@ use Rattle.base_data.specs.declared.model.value.Val.{Val}
 use Rattle.base_data.specs.declared.model.value.Obj.TheVariants as objects
 use Rattle.marshal_heap.specs.heap.Heap.{position, word_of}
 use Rattle.marshal_heap.specs.heap.Stored.{decode, IsStored}
-use Rattle.marshal_heap.specs.heap.Words.{header}
+use Rattle.marshal_heap.specs.heap.ObjectWords.{header}
 use Rattle.marshal_heap.proofs.heap.StoredLemmas.{held}
 use Rattle.marshal_heap.proofs.heap.NewLemmas.{values_of, IsNew-values}
 use Rattle.marshal_heap.proofs.heap.ChangeLemmas.{positions_below, many_positions, made}

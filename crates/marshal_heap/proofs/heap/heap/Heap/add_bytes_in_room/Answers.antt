@@ -8,7 +8,7 @@ use Rattle.marshal_heap.specs.heap.Stored.{decode, IsStored}
 use Rattle.marshal_heap.proofs.heap.StoredLemmas.{held}
 use Rattle.marshal_heap.proofs.heap.ChangeLemmas.{positions_below, many_words, made}
 use Rattle.marshal_heap.proofs.heap.NewLemmas.{IsNew-bytes}
-use Rattle.marshal_heap.proofs.heap.ReadLemmas.{word_of-next}
+use Rattle.marshal_heap.proofs.heap.HeapReadLemmas.{word_of-next}
 use Rattle.marshal_heap.proofs.heap.heap.Heap.add_bytes_in_room.Goals as goal
 
 pub begin_in_room-requires : goal.begin_in_room-requires

@@ -3,7 +3,7 @@ use Rattle.marshal_heap.specs.heap.Stored.{decode, IsStored}
 use Rattle.marshal_heap.proofs.heap.StoredLemmas.{held}
 use Rattle.marshal_heap.proofs.heap.ChangeLemmas.{positions_below, many_positions, made}
 use Rattle.marshal_heap.specs.heap.Heap.{custom_object}
-use Rattle.marshal_heap.specs.heap.Words.{header}
+use Rattle.marshal_heap.specs.heap.ObjectWords.{header}
 use Rattle.marshal_heap.proofs.heap.NewLemmas.{IsNew-custom, custom_tag}
 use Rattle.marshal_heap.proofs.heap.heap.Heap.add_custom.Goals as goal
 

@@ -1,9 +1,9 @@
 use Rattle.std.proofs.Common.{◌≡◌, ◌/◌, ◌%◌, ℕ, List, length, get_or, refl, ap, ◌∙◌, arith}
 use Rattle.base_data.specs.declared.model.value.Obj.{Obj}
 use Rattle.marshal_heap.specs.heap.Heap.{object_at, position, bytes_of}
-use Rattle.marshal_heap.specs.heap.Words.{string_words, bytes_of_word}
+use Rattle.marshal_heap.specs.heap.ObjectWords.{string_words, bytes_of_word}
 use Rattle.marshal_heap.proofs.heap.StoredLemmas.{held}
-use Rattle.marshal_heap.proofs.heap.StringLemmas.{byte_in_string}
+use Rattle.marshal_heap.proofs.heap.HeapStringLemmas.{byte_in_string}
 use Rattle.marshal_heap.proofs.heap.NewLemmas.{inside_if, words-bytes, body-bytes, bytes_valid}
 use Rattle.marshal_heap.proofs.heap.ChangeLemmas.{object_valid, body_word, word_inside}
 use Rattle.marshal_heap.proofs.heap.heap.Heap.byte.Goals as goal

@@ -2,7 +2,7 @@ use Rattle.std.proofs.Common.{length, get_or, pos, refl, sym, ◌∙◌}
 use Rattle.base_data.specs.declared.model.value.Val.TheVariants as vals
 use Rattle.marshal_heap.specs.heap.Heap.{object_at, fields_of}
 use Rattle.marshal_heap.proofs.heap.StoredLemmas.{held}
-use Rattle.marshal_heap.proofs.heap.ReadLemmas.{word_of-inj}
+use Rattle.marshal_heap.proofs.heap.HeapReadLemmas.{word_of-inj}
 use Rattle.marshal_heap.proofs.heap.NewLemmas.{inside_if, words-fields, fields_valid}
 use Rattle.marshal_heap.proofs.heap.ChangeLemmas.{object_valid, word_inside, field_word}
 use Rattle.marshal_heap.proofs.heap.heap.Heap.field.Goals as goal

@@ -4,7 +4,7 @@ use Rattle.base_data.specs.declared.model.value.Obj.{Obj}
 use Rattle.marshal_heap.specs.heap.Heap.{object_at, position, word_with, word_of, fields_of}
 use Rattle.marshal_heap.proofs.heap.StoredLemmas.{held}
 use Rattle.std.proofs.lemmas.List.{get_or-map, length-map}
-use Rattle.marshal_heap.proofs.heap.PositionLemmas.{same_from_position}
+use Rattle.marshal_heap.proofs.heap.HeapPositionLemmas.{same_from_position}
 use Rattle.marshal_heap.proofs.heap.NewLemmas.{body-fields, fields_valid}
 use Rattle.marshal_heap.proofs.heap.ChangeLemmas.{many_words, object_valid, body_here, body_inside}
 use Rattle.marshal_heap.proofs.heap.heap.Heap.fields_at.Goals as goal

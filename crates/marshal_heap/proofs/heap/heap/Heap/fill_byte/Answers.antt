@@ -2,7 +2,7 @@ use Rattle.std.proofs.Common.{◌≡◌, ◌/◌, ◌%◌, ℕ, suc, List, lengt
 use Rattle.base_data.specs.declared.model.value.Obj.{Obj}
 use Rattle.marshal_heap.specs.heap.Heap.{object_at, position, bytes_of, set_byte}
 use Rattle.marshal_heap.specs.heap.Stored.{decode, IsStored}
-use Rattle.marshal_heap.specs.heap.Words.{code_with, string_words, word_of_bytes, bytes_of_word}
+use Rattle.marshal_heap.specs.heap.ObjectWords.{code_with, string_words, word_of_bytes, bytes_of_word}
 use Rattle.marshal_heap.specs.arena.Region.{Contents}
 use Rattle.marshal_heap.proofs.heap.StoredLemmas.{held}
 use Rattle.marshal_heap.proofs.heap.HeapLemmas.{Replaces-with_byte}

@@ -1,7 +1,7 @@
 use Rattle.std.proofs.Common.{length, arith}
 use Rattle.marshal_heap.specs.heap.Heap.{object_at}
 use Rattle.marshal_heap.proofs.heap.StoredLemmas.{held}
-use Rattle.marshal_heap.proofs.heap.PositionLemmas.{two_words}
+use Rattle.marshal_heap.proofs.heap.HeapPositionLemmas.{two_words}
 use Rattle.marshal_heap.proofs.heap.ChangeLemmas.{object_valid, object_inside}
 use Rattle.marshal_heap.proofs.heap.heap.Heap.keys.Goals as goal
 

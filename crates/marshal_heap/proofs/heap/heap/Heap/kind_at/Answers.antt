@@ -3,9 +3,9 @@ use Rattle.base_data.specs.declared.model.value.Obj.{Obj}
 use Rattle.base_data.specs.model.Graph.{IsObject}
 use Rattle.marshal_heap.specs.heap.Heap.{object_at, position}
 use Rattle.marshal_heap.specs.heap.Stored.{kind_from}
-use Rattle.marshal_heap.specs.heap.Words.{tag_of, body_with}
+use Rattle.marshal_heap.specs.heap.ObjectWords.{tag_of, body_with}
 use Rattle.marshal_heap.proofs.heap.StoredLemmas.{held}
-use Rattle.marshal_heap.proofs.heap.PositionLemmas.{two_words}
+use Rattle.marshal_heap.proofs.heap.HeapPositionLemmas.{two_words}
 use Rattle.marshal_heap.proofs.heap.CodeLemmas.{length-code}
 use Rattle.marshal_heap.proofs.heap.StoredLemmas.{tag_small}
 use Rattle.marshal_heap.proofs.heap.NewLemmas.{kind_back, custom_fits}

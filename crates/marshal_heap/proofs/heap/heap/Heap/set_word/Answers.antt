@@ -4,7 +4,7 @@ use Rattle.base_data.specs.declared.model.value.Obj.{Obj}
 use Rattle.base_data.specs.model.Graph.{IsValue}
 use Rattle.marshal_heap.specs.heap.Heap.{object_at, position, word_of, fields_of, set_field}
 use Rattle.marshal_heap.specs.heap.Stored.{decode, IsStored}
-use Rattle.marshal_heap.specs.heap.Words.{code_with}
+use Rattle.marshal_heap.specs.heap.ObjectWords.{code_with}
 use Rattle.marshal_heap.proofs.heap.StoredLemmas.{held}
 use Rattle.marshal_heap.specs.arena.Region.{Contents}
 use Rattle.marshal_heap.proofs.heap.HeapLemmas.{Replaces-with_field}

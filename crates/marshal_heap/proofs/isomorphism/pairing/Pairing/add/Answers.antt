@@ -1,7 +1,7 @@
 use Rattle.std.proofs.Common.{◌≡◌, ◌+◌, ◌<◌, length, map, sym, subst, arith}
 use Rattle.std.proofs.lemmas.Grind.{common_steps}
 use Rattle.marshal_heap.specs.isomorphism.Paired.{Paired, IsNew, left_of, right_of}
-use Rattle.marshal_heap.proofs.isomorphism.FieldLemmas.{index_added}
+use Rattle.marshal_heap.proofs.isomorphism.IsomorphismFieldLemmas.{index_added}
 use Rattle.marshal_heap.proofs.isomorphism.pairing.Pairing.add.Goals as goal
 
 pub index_mut-requires : goal.index_mut-requires

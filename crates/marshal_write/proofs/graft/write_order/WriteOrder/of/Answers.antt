@@ -1,7 +1,7 @@
 use Rattle.std.proofs.Common.{◌∙◌, sym, subst}
 use Rattle.marshal_spec.proofs.canonical.Walk.{tree_exists}
 use Rattle.marshal_write.specs.write.Marks.{marks_of}
-use Rattle.marshal_write.specs.graft.Order.{IsOrder}
+use Rattle.marshal_write.specs.graft.ObjectOrder.{IsOrder}
 use Rattle.marshal_write.proofs.graft.write_order.WriteOrder.of.Goals as goal
 
 pub order_of-requires : goal.order_of-requires

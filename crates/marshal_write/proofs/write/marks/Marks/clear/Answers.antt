@@ -1,5 +1,5 @@
 use Rattle.std.proofs.Common.{◌∙◌, ap, refl, replicate}
-use Rattle.marshal_write.proofs.write.MarkLemmas.{none_marked}
+use Rattle.marshal_write.proofs.write.WriterMarkLemmas.{none_marked}
 use Rattle.marshal_write.proofs.write.marks.Marks.clear.Goals as goal
 
 pub returns-clause-marks : goal.returns-clause-marks

@@ -1,5 +1,5 @@
 use Rattle.std.proofs.Common.{◌∙◌}
-use Rattle.marshal_write.proofs.write.MarkLemmas.{mark_ordered}
+use Rattle.marshal_write.proofs.write.WriterMarkLemmas.{mark_ordered}
 use Rattle.marshal_write.proofs.write.marks.Marks.get.Goals as goal
 
 pub returns-then-self : goal.returns-then-self

@@ -1,4 +1,4 @@
-use Rattle.marshal_write.proofs.write.MarkLemmas.{none_in_order}
+use Rattle.marshal_write.proofs.write.WriterMarkLemmas.{none_in_order}
 use Rattle.marshal_write.proofs.write.marks.Marks.new.Goals as goal
 
 pub returns-clause-marks : goal.returns-clause-marks

@@ -1,5 +1,5 @@
 use Rattle.std.proofs.Common.{refl, arith}
-use Rattle.marshal_write.proofs.write.MarkLemmas.{next_marked}
+use Rattle.marshal_write.proofs.write.WriterMarkLemmas.{next_marked}
 use Rattle.marshal_write.proofs.write.marks.Marks.set.Goals as goal
 
 pub returns-then-k-mark-clause-marks : goal.returns-then-k-mark-clause-marks

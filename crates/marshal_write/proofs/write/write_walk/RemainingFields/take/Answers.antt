@@ -1,5 +1,5 @@
 use Rattle.std.proofs.Common.{refl}
-use Rattle.marshal_write.proofs.write.FrameLemmas.{taken, take_some}
+use Rattle.marshal_write.proofs.write.WriterFrameLemmas.{taken, take_some}
 use Rattle.marshal_write.proofs.write.write_walk.RemainingFields.take.Goals as goal
 
 pub returns-clause-takes : goal.returns-clause-takes

@@ -1,9 +1,9 @@
 use Rattle.std.proofs.Common.{◌++◌, ◌∙◌, ap, ap₂, sym, arith}
 use Rattle.marshal_heap.specs.heap.Heap.{object_at}
-use Rattle.marshal_write.specs.write.Walking.{left_of}
+use Rattle.marshal_write.specs.write.WriteWalk.{left_of}
 use Rattle.marshal_write.specs.declared.write.write_walk.RemainingFields.{RemainingFields}
 use Rattle.marshal_write.specs.declared.write.write_walk.WriteWalk.{WriteWalk}
-use Rattle.marshal_write.proofs.write.FrameLemmas.{held_block, block_begun, block_token, header_block, header_leaf, object_is, next_position, next_small}
+use Rattle.marshal_write.proofs.write.WriterFrameLemmas.{held_block, block_begun, block_token, header_block, header_leaf, object_is, next_position, next_small}
 use Rattle.marshal_write.proofs.write.write_walk.WriteWalk.enter.Goals as goal
 
 pub overflow_add-self-2 : goal.overflow_add-self-2

@@ -1,5 +1,5 @@
 use Rattle.std.proofs.Common.{◌∙◌, ap, refl, replicate, arith}
-use Rattle.marshal_write.proofs.write.WalkLemmas.{first_walk}
+use Rattle.marshal_write.proofs.write.WriterWalkLemmas.{first_walk}
 use Rattle.marshal_write.proofs.write.write_walk.WriteWalk.new.Goals as goal
 
 pub returns-clause-walk : goal.returns-clause-walk

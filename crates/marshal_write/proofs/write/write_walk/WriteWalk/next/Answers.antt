@@ -1,8 +1,8 @@
 use Rattle.std.proofs.Common.{◌+◌, ap, subst, arith}
 use Rattle.base_data.specs.model.Graph.{IsValue}
-use Rattle.marshal_write.proofs.write.WalkLemmas.{all_given}
-use Rattle.marshal_write.proofs.write.NextLemmas.{still_walk, given_small, integer_advances, integer_walk, atom_advances, atom_walk, mark_behind, frame_room, count_small, marks_many, met_count, next_in_order, reference_follows}
-use Rattle.marshal_write.proofs.write.SizeLemmas.{integer_kept}
+use Rattle.marshal_write.proofs.write.WriterWalkLemmas.{all_given}
+use Rattle.marshal_write.proofs.write.WriterNextLemmas.{still_walk, given_small, integer_advances, integer_walk, atom_advances, atom_walk, mark_behind, frame_room, count_small, marks_many, met_count, next_in_order, reference_follows}
+use Rattle.marshal_write.proofs.write.WriterSizeLemmas.{integer_kept}
 use Rattle.marshal_write.proofs.write.write_walk.WriteWalk.next.Goals as goal
 
 pub returns-in_default-clause-next : goal.returns-in_default-clause-next

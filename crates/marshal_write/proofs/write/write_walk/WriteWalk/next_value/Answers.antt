@@ -1,7 +1,7 @@
 use Rattle.std.proofs.Common.{◌∙◌}
-use Rattle.marshal_write.specs.write.Walking.{left_of}
-use Rattle.marshal_write.proofs.write.FrameLemmas.{value_taken}
-use Rattle.marshal_write.proofs.write.WalkLemmas.{later}
+use Rattle.marshal_write.specs.write.WriteWalk.{left_of}
+use Rattle.marshal_write.proofs.write.WriterFrameLemmas.{value_taken}
+use Rattle.marshal_write.proofs.write.WriterWalkLemmas.{later}
 use Rattle.marshal_write.proofs.write.write_walk.WriteWalk.next_value.Goals as goal
 
 pub returns-clause-value : goal.returns-clause-value

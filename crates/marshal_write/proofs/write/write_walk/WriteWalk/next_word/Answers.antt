@@ -1,7 +1,7 @@
 use Rattle.std.proofs.Common.{◌≡◌, ◌∷◌, ◌++◌, [], ◌∙◌, ap, sym, subst}
 use Rattle.std.specs.Prelude.{All}
-use Rattle.marshal_write.specs.write.Walking.{IsOuter, Takes, fields_left, left_in, left_of}
-use Rattle.marshal_write.proofs.write.FrameLemmas.{outer_takes, frames_split}
+use Rattle.marshal_write.specs.write.WriteWalk.{IsOuter, Takes, fields_left, left_in, left_of}
+use Rattle.marshal_write.proofs.write.WriterFrameLemmas.{outer_takes, frames_split}
 use Rattle.marshal_write.proofs.write.write_walk.WriteWalk.next_word.Goals as goal
 
 pub returns-clause-takes : goal.returns-clause-takes

@@ -1,9 +1,9 @@
 use Rattle.std.proofs.Common.{◌++◌, ◌∙◌, ap, sym, subst}
 use Rattle.std.specs.Prelude.{All}
 use Rattle.std.proofs.lemmas.List.Elements.{All-push}
-use Rattle.marshal_write.specs.write.Walking.{IsOuter, left_in}
-use Rattle.marshal_write.proofs.write.FrameLemmas.{left_in-push, some_words, no_word}
-use Rattle.marshal_write.proofs.write.WalkLemmas.{no_words}
+use Rattle.marshal_write.specs.write.WriteWalk.{IsOuter, left_in}
+use Rattle.marshal_write.proofs.write.WriterFrameLemmas.{left_in-push, some_words, no_word}
+use Rattle.marshal_write.proofs.write.WriterWalkLemmas.{no_words}
 use Rattle.marshal_write.proofs.write.write_walk.WriteWalk.open.Goals as goal
 
 pub returns-then-is_empty-clause-left : goal.returns-then-is_empty-clause-left

@@ -1,5 +1,5 @@
 use Rattle.std.proofs.Common.{◌∙◌, ap, refl, sym, replicate, arith}
-use Rattle.marshal_write.proofs.write.WalkLemmas.{start_walk, end_in_order}
+use Rattle.marshal_write.proofs.write.WriterWalkLemmas.{start_walk, end_in_order}
 use Rattle.marshal_write.proofs.write.write_walk.WriteWalk.restart.Goals as goal
 
 pub returns-clause-walk : goal.returns-clause-walk

@@ -1,5 +1,5 @@
 use Rattle.std.proofs.Common.{◌∙◌, sym}
-use Rattle.marshal_write.proofs.write.FrameLemmas.{at_position}
+use Rattle.marshal_write.proofs.write.WriterFrameLemmas.{at_position}
 use Rattle.marshal_write.proofs.write.write_walk.WriteWalk.value_of.Goals as goal
 
 pub returns-then-word-self-clause-valid : goal.returns-then-word-self-clause-valid

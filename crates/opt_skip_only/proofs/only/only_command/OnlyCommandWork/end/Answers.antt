@@ -1,5 +1,5 @@
 use Rattle.std.proofs.Common.{sym, subst}
-use Rattle.base_io.specs.State.{change}
+use Rattle.base_io.specs.StreamState.{change}
 use Rattle.opt_skip_only.specs.only_spec.OnlyCommand.{only_command}
 use Rattle.run_loop.specs.work.Works.{EndsAt}
 use Rattle.opt_skip_only.specs.only.Picked.{HasPicked}

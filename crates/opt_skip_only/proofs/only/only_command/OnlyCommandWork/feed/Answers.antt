@@ -1,7 +1,7 @@
 use Rattle.std.proofs.Common.{Ok, Err, sym, subst, arith}
 use Rattle.cli_spec.specs.declared.exit.Exit.TheVariants.{Memory as out_of_memory}
-use Rattle.base_io.specs.State.{change}
-use Rattle.cli_errors.specs.declared.exit.Error.TheVariants as aborts
+use Rattle.base_io.specs.StreamState.{change}
+use Rattle.cli_errors.specs.declared.exit_line.Error.TheVariants as aborts
 use Rattle.opt_skip_only.specs.only_spec.OnlyCommand.{only_command}
 use Rattle.run_loop.specs.work.Works.{Feeds}
 use Rattle.opt_skip_only.specs.only.Picked.{HasPicked}

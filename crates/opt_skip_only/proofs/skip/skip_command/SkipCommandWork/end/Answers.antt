@@ -1,5 +1,5 @@
 use Rattle.std.proofs.Common.{arith}
-use Rattle.base_io.specs.State.{change}
+use Rattle.base_io.specs.StreamState.{change}
 use Rattle.opt_skip_only.specs.skip.SkipCommand.{passed_of}
 use Rattle.opt_skip_only.proofs.skip.SkipCommandLemmas.{ended_at, ended_short}
 use Rattle.opt_skip_only.proofs.skip.skip_command.SkipCommandWork.end.Goals as goal

@@ -1,6 +1,6 @@
 use Rattle.std.proofs.Common.{[], ◌∷◌, get_or, sym, subst}
 use Rattle.base_io.specs.Sink.{Writes, WritesPart}
-use Rattle.base_io.specs.State.{change}
+use Rattle.base_io.specs.StreamState.{change}
 use Rattle.run_spec.specs.runs.Commands.{text as text_item}
 use Rattle.opt_skip_only.specs.skip_spec.Skipping.{passed_output, skipping}
 use Rattle.opt_skip_only.specs.skip.SkipCommand.{passed_of, HasPassed}

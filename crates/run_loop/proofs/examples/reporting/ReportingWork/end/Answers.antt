@@ -1,7 +1,7 @@
-use Rattle.base_io.specs.State.{change}
-use Rattle.cli_errors.specs.declared.exit.Error.TheVariants as aborts
-use Rattle.run_loop.proofs.work.ChunkLemmas.{ends_error}
-use Rattle.run_loop.specs.examples.Small.{reporting}
+use Rattle.base_io.specs.StreamState.{change}
+use Rattle.cli_errors.specs.declared.exit_line.Error.TheVariants as aborts
+use Rattle.run_loop.proofs.work.WorkChunkLemmas.{ends_error}
+use Rattle.run_loop.specs.examples.SmallCommands.{reporting}
 use Rattle.run_loop.proofs.examples.ReportingLemmas.{reports, reports_part}
 use Rattle.run_loop.proofs.examples.reporting.ReportingWork.end.Goals as goal
 

@@ -1,7 +1,7 @@
 use Rattle.std.proofs.Common.{sym, arith, rules}
 use Rattle.std.proofs.lemmas.Grind.{common_steps}
 use Rattle.std.proofs.lemmas.List.{append-nil}
-use Rattle.text_print.proofs.print.LabelLemmas.{no_label, some_label}
+use Rattle.text_print.proofs.print.PrintLabelLemmas.{no_label, some_label}
 use Rattle.text_print.proofs.print.labels.Labels.write_first.Goals as goal
 
 pub returns-then-number-len : goal.returns-then-number-len

@@ -1,8 +1,8 @@
 use Rattle.std.proofs.Common.{◌≡◌, ◌≤◌, ◌-◌, suc, length, take, refl, arith, rules}
 use Rattle.std.proofs.lemmas.Grind.{common_steps}
-use Rattle.text_print.specs.print.Levels.{last_outside}
-use Rattle.text_print.proofs.print.LevelLemmas.{innermost_at}
-use Rattle.text_print.proofs.print.WalkLemmas.{block_open, block_goes, part_goes, word_is_field, words_many}
+use Rattle.text_print.specs.print.PrintLevels.{last_outside}
+use Rattle.text_print.proofs.print.PrintLevelLemmas.{innermost_at}
+use Rattle.text_print.proofs.print.PrintWalkLemmas.{block_open, block_goes, part_goes, word_is_field, words_many}
 use Rattle.text_print.proofs.print.print_walk.PrintWalk.go_in.Goals as goal
 
 pub returns-then-block-len : goal.returns-then-block-len

@@ -1,11 +1,11 @@
 use Rattle.std.proofs.Common.{◌≡◌, ◌++◌, ◌∷◌, ◌-◌, ◌<◌, ◌∙◌, [], suc, length, take, refl, sym, ap, arith, rules}
 use Rattle.std.proofs.lemmas.Grind.{common_steps}
 use Rattle.std.proofs.lemmas.List.{nil_from_length}
-use Rattle.text_print.specs.print.Levels.{levels_of, last_outside}
-use Rattle.text_print.proofs.print.LeftLemmas.{none_left}
-use Rattle.text_print.proofs.print.LevelLemmas.{no_levels}
-use Rattle.text_print.proofs.print.MarkLemmas.{last_split}
-use Rattle.text_print.proofs.print.WalkLemmas.{end_goes}
+use Rattle.text_print.specs.print.PrintLevels.{levels_of, last_outside}
+use Rattle.text_print.proofs.print.PrintLeftLemmas.{none_left}
+use Rattle.text_print.proofs.print.PrintLevelLemmas.{no_levels}
+use Rattle.text_print.proofs.print.PrintMarkLemmas.{last_split}
+use Rattle.text_print.proofs.print.PrintWalkLemmas.{end_goes}
 use Rattle.text_print.proofs.print.print_walk.PrintWalk.go_on.Goals as goal
 
 pub returns-then-has_end : goal.returns-then-has_end

@@ -4,9 +4,9 @@ use Rattle.std.proofs.lemmas.Grind.{common_steps}
 use Rattle.std.proofs.lemmas.List.{get_or_read}
 use Rattle.base_data.specs.model.Graph.{IsValue}
 use Rattle.types_spec.specs.types.Fitting.{is_asked}
-use Rattle.text_print.specs.show.Tables.{shape_in}
-use Rattle.text_print.proofs.print.TypedLemmas.{integer_kept}
-use Rattle.text_print.proofs.print.WalkLemmas.{integer_goes, atom_goes, again_goes, wildcard_goes}
+use Rattle.text_print.specs.show.TableShapes.{shape_in}
+use Rattle.text_print.proofs.print.PrintTypedLemmas.{integer_kept}
+use Rattle.text_print.proofs.print.PrintWalkLemmas.{integer_goes, atom_goes, again_goes, wildcard_goes}
 use Rattle.text_print.proofs.print.print_walk.PrintWalk.meet.Goals as goal
 
 pub returns-in-Int-clause-goes : goal.returns-in-Int-clause-goes

@@ -2,7 +2,7 @@ use Rattle.std.proofs.Common.{◌≡◌, ◌∙◌, ap, refl, length, true, arit
 use Rattle.std.proofs.lemmas.Grind.{common_steps}
 use Rattle.std.specs.Vec.{with_item}
 use Rattle.marshal_heap.specs.heap.Heap.{kind_of}
-use Rattle.text_print.proofs.print.WalkLemmas.{leaf_goes, opening_goes}
+use Rattle.text_print.proofs.print.PrintWalkLemmas.{leaf_goes, opening_goes}
 use Rattle.text_print.proofs.print.print_walk.PrintWalk.meet_first.Goals as goal
 
 pub returns-in_default-clause-goes : goal.returns-in_default-clause-goes

@@ -1,6 +1,6 @@
 use Rattle.std.proofs.Common.{◌≡◌, refl, rules, arith, replicate, length, false}
 use Rattle.std.proofs.lemmas.Grind.{common_steps}
-use Rattle.text_print.proofs.print.WalkLemmas.{first_walk}
+use Rattle.text_print.proofs.print.PrintWalkLemmas.{first_walk}
 use Rattle.text_print.proofs.print.print_walk.PrintWalk.new.Goals as goal
 
 pub returns-clause-walk : goal.returns-clause-walk

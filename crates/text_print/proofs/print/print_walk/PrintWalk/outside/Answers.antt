@@ -1,9 +1,9 @@
 use Rattle.std.proofs.Common.{◌≡◌, ◌-◌, ◌∙◌, [], ◌∷◌, ◌++◌, suc, length, take, sym, ap, arith, rules}
 use Rattle.std.proofs.lemmas.Grind.{common_steps}
-use Rattle.text_print.specs.declared.print.block.OpenBlock.{OpenBlock}
-use Rattle.text_print.specs.print.Levels.{last_outside}
-use Rattle.text_print.proofs.print.LevelLemmas.{outside_last}
-use Rattle.text_print.proofs.print.MarkLemmas.{last_split}
+use Rattle.text_print.specs.declared.print.open_block.OpenBlock.{OpenBlock}
+use Rattle.text_print.specs.print.PrintLevels.{last_outside}
+use Rattle.text_print.proofs.print.PrintLevelLemmas.{outside_last}
+use Rattle.text_print.proofs.print.PrintMarkLemmas.{last_split}
 use Rattle.text_print.proofs.print.print_walk.PrintWalk.outside.Goals as goal
 
 pub returns-then-is_empty : goal.returns-then-is_empty

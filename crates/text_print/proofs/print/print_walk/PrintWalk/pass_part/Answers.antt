@@ -1,8 +1,8 @@
 use Rattle.std.proofs.Common.{ℕ, ◌≡◌, ◌∙◌, ◌++◌, ◌∷◌, [], List, Option, length, get_or, set, refl, sym, ap, subst, arith, append-nil}
 use Rattle.std.proofs.lemmas.List.{length-append, set_at, get_or_at}
 use Rattle.std.specs.Prelude.{option_to_list}
-use Rattle.text_print.specs.declared.print.block.OpenBlock.{OpenBlock}
-use Rattle.text_print.specs.print.Levels.{with_next, blocks_after}
+use Rattle.text_print.specs.declared.print.open_block.OpenBlock.{OpenBlock}
+use Rattle.text_print.specs.print.PrintLevels.{with_next, blocks_after}
 use Rattle.text_print.proofs.print.print_walk.PrintWalk.pass_part.Goals as goal
 
 pub returns-in-None : goal.returns-in-None

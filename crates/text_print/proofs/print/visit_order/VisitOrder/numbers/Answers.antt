@@ -1,5 +1,5 @@
 use Rattle.std.proofs.Common.{◌∙◌, ◌++◌, ◌∷◌, [], ap, sym, arith}
-use Rattle.text_print.proofs.print.RowLemmas.{row_more}
+use Rattle.text_print.proofs.print.PrintRowLemmas.{row_more}
 use Rattle.text_print.proofs.print.visit_order.VisitOrder.numbers.Goals as goal
 
 pub loop-o-preserved : goal.loop-o-preserved

@@ -1,5 +1,5 @@
 use Rattle.std.proofs.Common.{◌≡◌, ◌-◌, ◌≤◌}
-use Rattle.text_print.specs.print.Row.{row}
+use Rattle.text_print.specs.print.PrintRow.{row}
 use Rattle.text_print.proofs.print.visit_order.VisitOrder.numbers.Given as goal
 
 abbrev pub invariant-loop-o : goal.invariant-loop-o

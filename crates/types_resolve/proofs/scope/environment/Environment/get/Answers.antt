@@ -2,8 +2,8 @@ use Rattle.std.proofs.Common.{sym, ap, length, ◌∙◌}
 use Rattle.std.proofs.lemmas.Option.{get_or_from_slice_get}
 use Rattle.types_spec.specs.types.Declarations.{declaration_of}
 use Rattle.types_resolve.specs.scope.Breaks.{names_of_decls}
-use Rattle.types_resolve.specs.scope.Names.{number_of}
-use Rattle.types_resolve.proofs.scope.DeclaredLemmas.{find_none, found_at, position_of, nowhere}
+use Rattle.types_resolve.specs.scope.NamePositions.{number_of}
+use Rattle.types_resolve.proofs.scope.ScopeDeclaredLemmas.{find_none, found_at, position_of, nowhere}
 use Rattle.types_resolve.proofs.scope.environment.Environment.get.Goals as goal
 
 pub nth-requires : goal.nth-requires

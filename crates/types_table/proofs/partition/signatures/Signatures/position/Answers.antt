@@ -1,7 +1,7 @@
 use Rattle.std.proofs.Common.{ap, ◌∙◌, sym, nat_eq, refl, Some}
 use Rattle.std.specs.Cmp.Lexicographic.{pointwise}
 use Rattle.std.specs.Prelude.{slice_get}
-use Rattle.types_table.proofs.store.HeldLemmas.{AreDistinct-texts, agree_texts, text_found, text_added, adds_nothing}
+use Rattle.types_table.proofs.store.StoreHeldLemmas.{AreDistinct-texts, agree_texts, text_found, text_added, adds_nothing}
 use Rattle.types_table.proofs.partition.signatures.Signatures.position.Goals as goal
 
 pub invariant_of-self-in-None : goal.invariant_of-self-in-None

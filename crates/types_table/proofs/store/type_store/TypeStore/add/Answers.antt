@@ -1,6 +1,6 @@
 use Rattle.std.proofs.Common.{refl, subst, IfOk}
 use Rattle.types_table.specs.store.Held.{Holds}
-use Rattle.types_table.proofs.store.InstanceLemmas.{instance_itself}
+use Rattle.types_table.proofs.store.StoreInstanceLemmas.{instance_itself}
 use Rattle.types_table.proofs.store.type_store.TypeStore.add.Goals as goal
 
 pub returns-clause-ok : goal.returns-clause-ok

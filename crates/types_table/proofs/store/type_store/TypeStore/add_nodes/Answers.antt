@@ -1,6 +1,6 @@
 use Rattle.std.proofs.Common.{refl, []}
 use Rattle.types_table.specs.store.Instance.{argument_at}
-use Rattle.types_table.proofs.store.InstanceLemmas.{each_there}
+use Rattle.types_table.proofs.store.StoreInstanceLemmas.{each_there}
 use Rattle.types_table.proofs.store.type_store.TypeStore.add_nodes.Goals as goal
 
 pub returns-in-Ok-clause-ok : goal.returns-in-Ok-clause-ok

@@ -1,7 +1,7 @@
 use Rattle.std.proofs.Common.{ap, arith, length}
 use Rattle.types_table.specs.store.View.{encoded}
 use Rattle.types_table.proofs.store.StoreLemmas.{types_in-length, node_at}
-use Rattle.types_table.proofs.store.HeldLemmas.{get-map}
+use Rattle.types_table.proofs.store.StoreHeldLemmas.{get-map}
 use Rattle.types_table.proofs.store.type_store.TypeStore.node.Goals as goal
 
 pub stored-requires : goal.stored-requires

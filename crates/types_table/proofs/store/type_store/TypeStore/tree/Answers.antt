@@ -1,6 +1,6 @@
 use Rattle.std.proofs.Common.{subst, ◌≡◌, arith}
-use Rattle.types_spec.proofs.types.NodeLemmas.{AreOrdered-none}
-use Rattle.types_table.proofs.store.TreeLemmas.{AreFirst, first_none, first_more, now_ordered, last_of_all}
+use Rattle.types_spec.proofs.types.TypeNodeLemmas.{AreOrdered-none}
+use Rattle.types_table.proofs.store.StoreTreeLemmas.{AreFirst, first_none, first_more, now_ordered, last_of_all}
 use Rattle.types_table.proofs.store.type_store.TypeStore.tree.Goals as goal
 
 pub loop-i-init : goal.loop-i-init

@@ -1,3 +1,0 @@
-pub mod OneListLemmas
-pub mod TableLemmas
-pub mod ReachedLemmas

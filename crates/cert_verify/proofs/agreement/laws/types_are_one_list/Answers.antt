@@ -1,5 +1,0 @@
-use Rattle.cert_verify.proofs.agreement.OneListLemmas.{one_list}
-use Rattle.cert_verify.proofs.agreement.laws.types_are_one_list.Goals as goal
-
-pub returns : goal.returns
-returns c decls t types others reached again = one_list decls t types others reached again

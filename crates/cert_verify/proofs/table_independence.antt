@@ -1,0 +1,3 @@
+pub mod OneListLemmas
+pub mod VerifierTableLemmas
+pub mod VerifierReachedLemmas

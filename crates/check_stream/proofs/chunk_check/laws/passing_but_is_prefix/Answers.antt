@@ -1,0 +1,5 @@
+use Rattle.check_stream.proofs.chunk_check.LawLemmas.{passing_but_is_prefix}
+use Rattle.check_stream.proofs.chunk_check.laws.passing_but_is_prefix.Goals as goal
+
+pub returns : goal.returns
+returns c = passing_but_is_prefix

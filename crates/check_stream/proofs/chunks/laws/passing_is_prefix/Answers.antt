@@ -1,5 +1,0 @@
-use Rattle.check_stream.proofs.chunks.LawLemmas.{passing_is_prefix}
-use Rattle.check_stream.proofs.chunks.laws.passing_is_prefix.Goals as goal
-
-pub returns : goal.returns
-returns c = passing_is_prefix

@@ -1,0 +1,5 @@
+pub mod MismatchSearchWayLemmas
+pub mod MismatchSearchJudgeLemmas
+pub mod ComesLemmas
+pub mod MismatchSearchFindLemmas
+pub mod MismatchSearchLineLemmas

@@ -1,5 +1,0 @@
-pub mod WayLemmas
-pub mod JudgeLemmas
-pub mod ComesLemmas
-pub mod FindLemmas
-pub mod LineLemmas

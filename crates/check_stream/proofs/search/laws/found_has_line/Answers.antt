@@ -1,5 +1,0 @@
-use Rattle.check_stream.proofs.search.LineLemmas.{found_line}
-use Rattle.check_stream.proofs.search.laws.found_has_line.Goals as goal
-
-pub returns : goal.returns
-returns c table limit n bytes found type_text f = found_line table limit n bytes found type_text f

@@ -1,7 +1,0 @@
-use Rattle.std.proofs.Common.{refl}
-use Rattle.clap.specs.Words.{found_of}
-use Rattle.cli_args.proofs.ReadLemmas.{word_got}
-use Rattle.cli_args.proofs.read.word.Goals as goal
-
-pub returns : goal.returns
-returns c = word_got (found_of c.args.arguments.now) c.args.name.now c.get_str.result _ c.unwrap_or.result c.get_str.ensures refl c.unwrap_or.ensures

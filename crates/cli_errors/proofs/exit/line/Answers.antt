@@ -1,9 +1,0 @@
-use Rattle.std.proofs.Common.{◌∙◌}
-use Rattle.std.proofs.lemmas.Result.{IfOk-weaker}
-use Rattle.cli_errors.proofs.LineLemmas.{line_is}
-use Rattle.cli_errors.proofs.exit.line.Goals as goal
-
-pub returns-in_default : goal.returns-in_default
-returns-in_default c =
-    IfOk-weaker c.text_line_of.result _ _
-    (λ line is. is ∙ line_is c.args.exit.now c.in_default.not-Finished) c.text_line_of.ensures

@@ -1,4 +1,0 @@
-use Rattle.cmd_certify.proofs.command.command.certify_over.Goals as goal
-
-pub returns : goal.returns
-returns g c = c.certify_by.ensures

@@ -1,7 +1,0 @@
-use Rattle.std.proofs.Common.{◌≡◌}
-use Rattle.cmd_gen.specs.generator.Generated.{items_made}
-use Rattle.cmd_gen.specs.generator.Items.{made_of, AreSound}
-use Rattle.cmd_gen.proofs.generator.made.generate.Given as goal
-
-abbrev pub invariant-loop-item : goal.invariant-loop-item
-invariant-loop-item l = (made_of l.items ≡ items_made l.number l._item) × AreSound l.items

@@ -1,5 +1,0 @@
-use Rattle.cmd_scan.proofs.found.WholeLemmas.{one_list_lemma}
-use Rattle.cmd_scan.proofs.found.laws.one_list.Goals as goal
-
-pub returns : goal.returns
-returns c = one_list_lemma

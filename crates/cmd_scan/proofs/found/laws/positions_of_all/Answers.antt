@@ -1,5 +1,0 @@
-use Rattle.cmd_scan.proofs.found.WholeLemmas.{positions_of_all_lemma}
-use Rattle.cmd_scan.proofs.found.laws.positions_of_all.Goals as goal
-
-pub returns : goal.returns
-returns c = positions_of_all_lemma

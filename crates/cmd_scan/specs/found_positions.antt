@@ -1,0 +1,3 @@
+pub mod InputParts
+pub mod ValuePositions
+pub mod Laws

@@ -1,4 +1,0 @@
-use Rattle.cmd_verify.proofs.command.command.verify_over.Goals as goal
-
-pub returns : goal.returns
-returns g c = c.verify_by.ensures

@@ -1,4 +1,0 @@
-use Rattle.cmd_verify.proofs.command.judge.judge_by.Goals as goal
-
-pub known-requires : goal.known-requires
-known-requires c = rw c.table.ensures.same at c.in_ok-verified.ensures.answer

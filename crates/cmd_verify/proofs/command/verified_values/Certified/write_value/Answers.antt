@@ -1,0 +1,40 @@
+use Rattle.std.proofs.Common.{refl, sym, subst, arith}
+use Rattle.base_io.specs.StreamState.{change}
+use Rattle.marshal_read.specs.Reader.{LeadsReader}
+use Rattle.cmd_certify.proofs.value_items.ValueItemReadLemmas.{room_for_one}
+use Rattle.cmd_verify.proofs.command.VerifyReadLemmas.{has_values, value_written, value_aborts}
+use Rattle.cmd_verify.proofs.command.verified_values.Certified.write_value.Goals as goal
+
+pub overflow_add-self : goal.overflow_add-self
+overflow_add-self g c =
+    let w = c.args.self.now in
+    let q = c.requires in
+    let room = room_for_one (has_values w.requested.now w.sections.now w.limit) q.2 q.3 in
+    omega (arith, room)
+
+pub invariant_of-borrowed : goal.invariant_of-borrowed
+invariant_of-borrowed g c =
+    let w = c.args.self.now in
+    let v = c.requires.2 in
+    let leads : LeadsReader w.limit v.whole c.replace-reader.result =
+    subst (λ r. LeadsReader w.limit v.whole r) (sym c.replace-reader.ensures.value) v.leads in
+    record { value = (c.finish-value.ensures w.limit v.whole leads).is_value.valid }
+
+pub returns-in_err-ok-clause-writes : goal.returns-in_err-ok-clause-writes
+returns-in_err-ok-clause-writes g c = λ taken output v.
+    let w = c.args.self.now in
+    let leads : LeadsReader w.limit v.whole c.replace-reader.result =
+    subst (λ r. LeadsReader w.limit v.whole r) (sym c.replace-reader.ensures.value) v.leads in
+    let out = change (g.K.Sink.state c.args.out.now) (g.K.Sink.state c.write_shown.new.out) in
+    value_aborts w.requested.now w.sections.now w.limit v c.finish-value.result
+    (c.finish-value.ensures w.limit v.whole leads) out c.in_err-ok.field-0.0 _ _ _
+    c.from_residual.result c.from_residual.ensures.1 c.in_err-ok.ensures
+
+pub returns-clause-writes : goal.returns-clause-writes
+returns-clause-writes g c = λ taken output v.
+    let w = c.args.self.now in
+    let leads : LeadsReader w.limit v.whole c.replace-reader.result =
+    subst (λ r. LeadsReader w.limit v.whole r) (sym c.replace-reader.ensures.value) v.leads in
+    value_written w.requested.now w.sections.now w.limit v c.finish-value.result (c.finish-value.ensures w.limit v.whole leads)
+    (change (g.K.Sink.state c.args.out.now) (g.K.Sink.state c.write_shown.new.out))
+    c.in_ok-ok.ok c.in_ok-ok.ensures c.over.result c.over.ensures.leads _ refl

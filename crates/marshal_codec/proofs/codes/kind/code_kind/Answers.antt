@@ -1,6 +1,0 @@
-use Rattle.std.proofs.Common.{subst, sym}
-use Rattle.marshal_spec.proofs.format.KindLemmas.{InRange, kind_of-in_range}
-use Rattle.marshal_codec.proofs.codes.kind.code_kind.Goals as goal
-
-pub returns-in_default-clause-known : goal.returns-in_default-clause-known
-returns-in_default-clause-known c = subst InRange (sym c.large_kind.ensures) (kind_of-in_range c.args.code)

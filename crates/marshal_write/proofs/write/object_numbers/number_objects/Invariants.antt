@@ -1,0 +1,12 @@
+use Rattle.std.proofs.Common.{◌≡◌, ◌-◌, ◌^◌}
+use Rattle.marshal_write.specs.write.WriteWalk.{IsWalk}
+use Rattle.marshal_write.proofs.write.object_numbers.number_objects.Given as goal
+
+abbrev pub invariant-tokens : goal.invariant-tokens
+invariant-tokens l = record {
+  walk : IsWalk l.heap l.walk;
+  root : l.walk.root ≡ l.fn.root;
+}
+
+abbrev pub decreases-tokens : goal.decreases-tokens
+decreases-tokens l = 2 ^ 64 - l.walk.given

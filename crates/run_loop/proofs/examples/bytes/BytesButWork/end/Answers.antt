@@ -1,6 +1,0 @@
-use Rattle.run_loop.proofs.examples.BytesLemmas.{bytes_end}
-use Rattle.run_loop.proofs.examples.bytes.BytesButWork.end.Goals as goal
-
-pub returns : goal.returns
-returns g c = λ bytes output h.
-    bytes_end c.args.self.now.refused c.args.self.now.count bytes output h (g.K.Sink.state c.args._out.now)

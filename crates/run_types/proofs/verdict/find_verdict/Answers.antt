@@ -1,4 +1,0 @@
-use Rattle.run_types.proofs.verdict.find_verdict.Goals as goal
-
-pub returns : goal.returns
-returns c = rw c.table.ensures.same at c.check.ensures.verdict

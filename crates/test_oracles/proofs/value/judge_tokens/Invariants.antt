@@ -1,9 +1,0 @@
-use Rattle.std.proofs.Common.{length}
-use Rattle.marshal_spec.proofs.format.StandLemmas.{Stands}
-use Rattle.test_oracles.proofs.value.judge_tokens.Given as goal
-
-abbrev pub invariant-next : goal.invariant-next
-invariant-next l = Stands l.limit l.bytes l.header l.tokens.items l.rest
-
-abbrev pub decreases-next : goal.decreases-next
-decreases-next l = length l.rest

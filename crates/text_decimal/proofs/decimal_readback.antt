@@ -1,0 +1,2 @@
+pub mod DecimalReadbackKindLemmas
+pub mod DecimalReadbackApartLemmas

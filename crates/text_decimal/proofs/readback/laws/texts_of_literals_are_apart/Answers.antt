@@ -1,5 +1,0 @@
-use Rattle.text_decimal.proofs.readback.ApartLemmas.{literals_are_apart}
-use Rattle.text_decimal.proofs.readback.laws.texts_of_literals_are_apart.Goals as goal
-
-pub returns : goal.returns
-returns c = literals_are_apart

@@ -1,5 +1,0 @@
-use Rattle.text_decimal.proofs.readback.ApartLemmas.{texts_are_read_back}
-use Rattle.text_decimal.proofs.readback.laws.texts_with_decimals_are_read_back.Goals as goal
-
-pub returns : goal.returns
-returns c = texts_are_read_back

@@ -1,3 +1,0 @@
-pub mod StartLemmas
-pub mod ReadingLemmas
-pub mod TableLemmas

@@ -1,5 +1,0 @@
-use Rattle.text_literal.proofs.agreement.TableLemmas.{tables_read_agree}
-use Rattle.text_literal.proofs.agreement.laws.tables_read_agree.Goals as goal
-
-pub returns : goal.returns
-returns c = tables_read_agree

@@ -1,9 +1,0 @@
-pub mod LiteralPrefixes
-pub mod LiteralGoes
-pub mod LiteralTable
-pub mod FollowCode
-pub mod ReadLemmas
-pub mod RangeLemmas
-pub mod PlacedLemmas
-pub mod SmallLemmas
-pub mod BriefLemmas

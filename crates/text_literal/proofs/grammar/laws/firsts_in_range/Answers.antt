@@ -1,5 +1,0 @@
-use Rattle.text_literal.proofs.grammar.RangeLemmas.{firsts_in}
-use Rattle.text_literal.proofs.grammar.laws.firsts_in_range.Goals as goal
-
-pub returns : goal.returns
-returns c = firsts_in

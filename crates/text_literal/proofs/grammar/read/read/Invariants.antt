@@ -1,5 +1,0 @@
-use Rattle.text_literal.proofs.grammar.ReadLemmas.{Reached}
-use Rattle.text_literal.proofs.grammar.read.read.Given as goal
-
-abbrev pub invariant-loop-position : goal.invariant-loop-position
-invariant-loop-position l = Reached l.lexemes l.position l.so_far.nodes l.so_far.opens l.stage

@@ -1,0 +1,9 @@
+pub mod LiteralPrefixes
+pub mod LiteralGoes
+pub mod LiteralTable
+pub mod FollowCode
+pub mod LiteralGrammarReadLemmas
+pub mod RangeLemmas
+pub mod LiteralGrammarPlacedLemmas
+pub mod SmallLemmas
+pub mod BriefLemmas

@@ -1,0 +1,3 @@
+pub mod LiteralTableStartLemmas
+pub mod LiteralTableReadingLemmas
+pub mod LiteralTableLemmas

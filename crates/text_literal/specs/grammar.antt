@@ -1,9 +1,0 @@
-pub mod Literal
-pub mod Machine
-pub mod WorkedTrees
-pub mod Popped
-pub mod Code
-pub mod Nodes
-pub mod Placed
-pub mod Small
-pub mod SmallOpens

@@ -1,7 +1,0 @@
--- The effect of removing the innermost bracket from the stack.
-use Rattle.std.specs.Prelude.{◌≡◌, List, [], ◌∷◌, Option, Some, None}
-use Rattle.text_literal.specs.declared.grammar.pending_node.PendingNode.{PendingNode}
-
-abbrev pub Popped : List PendingNode → List PendingNode → Option PendingNode → Type 0
-Popped old new None = (old ≡ []) × (new ≡ [])
-Popped old new (Some o) = old ≡ o ∷ new

@@ -1,0 +1,9 @@
+pub mod Literal
+pub mod LiteralMachine
+pub mod WorkedTrees
+pub mod PoppedNode
+pub mod LiteralCode
+pub mod LiteralNodes
+pub mod PlacedLiterals
+pub mod SmallNodes
+pub mod SmallOpens

@@ -1,0 +1,2 @@
+pub mod TextLineTableLemmas
+pub mod TextLineLemmas

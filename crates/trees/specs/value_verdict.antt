@@ -1,0 +1,5 @@
+pub mod TreeTable
+pub mod NodeVisits
+pub mod NodePairs
+pub mod TreeVerdictText
+pub mod Laws

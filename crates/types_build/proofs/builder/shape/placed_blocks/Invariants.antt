@@ -1,7 +1,0 @@
-use Rattle.std.proofs.Common.{take}
-use Rattle.types_build.specs.builder.Placed.{AreBlocksPlaced}
-use Rattle.types_build.proofs.builder.shape.placed_blocks.Given as goal
-
-abbrev pub invariant-loop-block : goal.invariant-loop-block
-invariant-loop-block l =
-    AreBlocksPlaced l.initial.met.keys l.met.keys (take l.block-index l.blocks) l.found.items

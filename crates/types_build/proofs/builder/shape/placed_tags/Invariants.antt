@@ -1,7 +1,0 @@
-use Rattle.std.proofs.Common.{take}
-use Rattle.types_build.specs.builder.Placed.{AreTagsPlaced}
-use Rattle.types_build.proofs.builder.shape.placed_tags.Given as goal
-
-abbrev pub invariant-loop-tag : goal.invariant-loop-tag
-invariant-loop-tag l =
-    AreTagsPlaced l.initial.met.keys l.met.keys (take l.tag-index l.tags) l.found.items

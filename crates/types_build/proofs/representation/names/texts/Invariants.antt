@@ -1,6 +1,0 @@
-use Rattle.std.proofs.Common.{◌≡◌, take}
-use Rattle.types_spec.specs.types.PredeclaredCode.{texts_of}
-use Rattle.types_build.proofs.representation.names.texts.Given as goal
-
-abbrev pub invariant-loop-bytes : goal.invariant-loop-bytes
-invariant-loop-bytes l = l.copies.items ≡ texts_of (take l.bytes-index l.from)

@@ -1,7 +1,0 @@
-use Rattle.types_resolve.specs.declared.scope.site.TypeUse.{TypeUse}
-use Rattle.types_resolve.specs.scope.Steps.{LeadsTo}
-use Rattle.types_resolve.proofs.scope.StepLemmas.{AreLed}
-use Rattle.types_resolve.proofs.scope.steps.steps_of.Given as goal
-
-abbrev pub invariant-loop-i : goal.invariant-loop-i
-invariant-loop-i l = AreLed l.uses (λ (u : TypeUse) j. LeadsTo l.decls l.decl.group u j) l.i l.steps

@@ -1,5 +1,0 @@
-use Rattle.types_resolve.specs.occurrences.CountedFile.{counted_file}
-use Rattle.types_wellformed.proofs.declarations.heads.first_file_head.Given as goal
-
-abbrev pub ghost-first_of_file : goal.ghost-first_of_file
-ghost-first_of_file a = counted_file a._marks.now a.decls.now

@@ -1,4 +1,0 @@
-use Rattle.types_wellformed.proofs.declarations.heads.first_of_type.Given as goal
-
-abbrev pub ghost-first_head_break_in_type : goal.ghost-first_head_break_in_type
-ghost-first_head_break_in_type g a = g.occurrences

@@ -1,5 +1,0 @@
-use Rattle.types_wellformed.proofs.declarations.FileLemmas.{files_well_formed}
-use Rattle.types_wellformed.proofs.declarations.known.files_are_well_formed.Goals as goal
-
-pub returns : goal.returns
-returns c lexemes tree is keeps = files_well_formed lexemes tree is keeps

@@ -1,5 +1,0 @@
-use Rattle.types_wellformed.proofs.declarations.SoundLemmas.{types_sound}
-use Rattle.types_wellformed.proofs.declarations.known.types_are_sound.Goals as goal
-
-pub returns : goal.returns
-returns c decls tree well keeps = types_sound decls tree well keeps

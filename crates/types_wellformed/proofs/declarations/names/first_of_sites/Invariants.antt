@@ -1,4 +1,0 @@
-use Rattle.types_wellformed.proofs.declarations.names.first_of_sites.Given as goal
-
-abbrev pub ghost-first_break : goal.ghost-first_break
-ghost-first_break g a = g.all

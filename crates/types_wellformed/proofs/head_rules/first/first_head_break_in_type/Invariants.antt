@@ -1,4 +1,0 @@
-use Rattle.types_wellformed.proofs.head_rules.first.first_head_break_in_type.Given as goal
-
-abbrev pub ghost-first_of_type : goal.ghost-first_of_type
-ghost-first_of_type g a = g.occurrences
