@@ -4,6 +4,8 @@ is one.
 
 - A line of specs/ and src/ has at most 100 columns, except attributes, ghost fields and imports of one name, which `rt fmt` does not break.
 - No file of specs/ is called Rows or Answers.
+- No two files of src/, of specs/ or of proofs/ have one name, and no two crates have types of one name. The exceptions
+  are ROLES, a module's main file, the oracle test_oracles, and SHARED_TYPES. docs/DECISIONS.md explains them.
 - specs/ and proofs/ import no name that they do not use, and proofs/ has no lemma that nothing uses.
 - must-fail/ has at most 8 mutants a crate and 45 in all. A mutant is a file *.edit: a change of a body
   that the prover has to refuse.
@@ -29,6 +31,20 @@ LONGEST_CHAIN = 14
 IMPORT = re.compile(r"^ *(pub )?use ([^{\n]*)(?:\{([^}]*)\})?", re.M)
 LEMMA = re.compile(r"^( *)(?:pub )?([A-Za-z_][^\s(){};,.\"=:`]*) :( |$)")
 TOKEN = re.compile(r"[^\s(){};,.\"=:`]+")
+ROLES = {
+    "src": {"lib.rt", "main.rt", "laws.rt", "spec.rt", "command.rt"},
+    "specs": {"Lib.antt", "Laws.antt", "ExitStatuses.antt"},
+    "proofs": {"Lib.antt", "LawLemmas.antt", "Answers.antt", "Invariants.antt", "Proof.antt"},
+}
+COMMAND_ROLES = {"spec.rt", "command.rt", "ExitStatuses.antt"}
+SHARED_TYPES = [
+    ({"cli_spec", "cli_args"}, {"Argument", "Form", "Request"}),
+    ({"cli_spec", "session"}, {"Query"}),
+    ({"run_spec", "session"}, {"Act"}),
+    ({"run_spec", "cmd_build", "cmd_certify", "cmd_verify"}, {"HoldBreak", "HoldRefusal", "OutputsOf", "RefusesTypes"}),
+]
+RUST_TYPE = re.compile(r"(?:pub(?:\(\w+\))? )?(?:struct|enum|trait|type) (?P<name>\w+)")
+LOGIC_TYPE = re.compile(r" *(?:pub |opaque )*(?:(?:record|data) (?:pub )?(?P<name>[^\s(){};,:.-]+)(?=[ :(]|$)|abbrev (?:pub )?(?P<alias>[^\s(){};,:.-]+) : Type 0(?: → Type 0)*$)")
 NO_LEMMAS = ("Answers.antt", "Invariants.antt", "Measures.antt", "Proof.antt", "Lib.antt", "Examples.antt")
 
 
@@ -54,7 +70,7 @@ def line_at(text, offset):
 def wide_lines():
     for path in files_of("specs", "antt") + files_of("src", "rt"):
         for number, line in enumerate(lines_of(path), 1):
-            unbreakable = path.endswith(".rt") and re.match(r"\s*(#\[|(pub )?ghost \w+( =|: )|ghost use [^{,]*\{[^,]*\};$)", line)
+            unbreakable = re.match(r"\s*((ghost|pub) )*use [^{,]*(\{[^,]*\})?[^,]*;?$", line) or path.endswith(".rt") and re.match(r"\s*(#\[|(pub )?ghost \w+( =|: ))", line)
             if len(line) > COLUMNS and not unbreakable:
                 yield f"{path}:{number}: {len(line)} columns, and at most {COLUMNS} are allowed"
 
@@ -63,6 +79,62 @@ def empty_names():
     for path in files_of("specs", "antt"):
         if os.path.basename(path) in ("Rows.antt", "Answers.antt"):
             yield f"{path}:1: the file's name does not say what the file holds"
+
+
+# Names of files and types.
+
+def owner_of(path):
+    """The crate of a file, and its folder there."""
+    return path.split(os.sep)[1], path.split(os.sep)[2]
+
+
+def is_role(path):
+    """Whether the name of a file stands for one role in each crate, or for the module whose files it lists."""
+    crate, folder = owner_of(path)
+    name = os.path.basename(path)
+    if name in ROLES[folder]:
+        return name not in COMMAND_ROLES or crate.startswith("cmd_")
+    return folder != "src" and name[0].islower()
+
+
+def repeated_files():
+    for folder, kind in (("src", "rt"), ("specs", "antt"), ("proofs", "antt")):
+        of_name = collections.defaultdict(list)
+        for path in files_of(folder, kind):
+            inner = os.path.dirname(path) + f".{kind}"
+            main_file = os.path.basename(inner) == os.path.basename(path) and os.path.exists(inner)
+            if not is_role(path) and not main_file and owner_of(path)[0] != "test_oracles":
+                of_name[os.path.basename(path)].append(path)
+        for paths in of_name.values():
+            for path in paths[1:]:
+                yield f"{path}:1: the file has the name of {paths[0]}"
+
+
+def types_of(path):
+    """(line, name) of each type of a file. Names that begin with `Is`, `Are`, `Has` or `Have` are relations."""
+    form = RUST_TYPE if path.endswith(".rt") else LOGIC_TYPE
+    for number, line in enumerate(lines_of(path), 1):
+        found = form.match(re.sub(r"//.*", "", line) if path.endswith(".rt") else line)
+        name = found and (found["name"] or found["alias"] if path.endswith(".antt") else found["name"])
+        if name and name[0].isupper() and not re.match(r"(Is|Are|Has|Have)([A-Z]|$)", name):
+            yield number, name
+
+
+def means_the_same(name, crates):
+    return len(crates - {"test_oracles"}) <= 1 or any(name in names and crates <= those for those, names in SHARED_TYPES)
+
+
+def repeated_types():
+    of_name = collections.defaultdict(list)
+    for path in files_of("specs", "antt") + files_of("src", "rt"):
+        for number, name in types_of(path):
+            of_name[name].append((f"{path}:{number}", owner_of(path)[0]))
+    for name, uses in of_name.items():
+        first, crate = uses[0]
+        if not means_the_same(name, {used for _, used in uses}):
+            for here, used in uses[1:]:
+                if used != crate:
+                    yield f"{here}: {name} is also a type of {first}"
 
 
 # Imports and lemmas that nothing uses.
@@ -184,7 +256,7 @@ def old_picture():
 
 def main():
     os.chdir(os.path.join(os.path.dirname(os.path.abspath(__file__)), ".."))
-    found = [*wide_lines(), *empty_names(), *unused_names(), *many_mutants(), *wrong_layers(), *old_picture(), *check_words.found(documents=True)]
+    found = [*wide_lines(), *empty_names(), *repeated_files(), *repeated_types(), *unused_names(), *many_mutants(), *wrong_layers(), *old_picture(), *check_words.found(documents=True)]
     print("\n".join(found), end="\n" if found else "")
     return 1 if found else 0
 
