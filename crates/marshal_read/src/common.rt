@@ -141,9 +141,11 @@ pub fn sound_len(stated: u64, objects: u64, kind: KnownKind, rest: &[u8]) -> Opt
 }
 
 /// Reads the next token, whose kind is `kind`, if the token surely passes and needs no new memory.
+/// The compiler inlines an instance only if the instance has one caller, so each caller has a
+/// `CODE` of its own.
 #[tactic(auto, using(crate::proofs::ReaderSizeLemmas::measure_small))]
 #[inline(always)]
-fn take_kind(
+fn take_kind<const CODE: u8>(
     first: &ReadTotals,
     left: &mut RemainingRoom,
     builder: &mut Builder,
@@ -201,26 +203,44 @@ fn take_one(
         → TakesLeft first.now n header before bytes.now position left.old builder.old left.new
         builder.new result }
 {
-    // The compiler specializes the code for each kind in the list, as long as the list is short.
-    // The codes 03, 08 and 09 are left to the full check.
+    // The compiler specializes the code for each kind in the list. The codes 03, 08 and 09 are left
+    // to the full check.
     match code_kind(bytes[0]) {
         Ok(CodeKind::SmallBlock(tag, size)) => {
-            take_kind(first, left, builder, CodeKind::SmallBlock(tag, size), bytes)
+            take_kind::<0x80>(first, left, builder, CodeKind::SmallBlock(tag, size), bytes)
         }
         Ok(CodeKind::SmallInt(value)) => {
-            take_kind(first, left, builder, CodeKind::SmallInt(value), bytes)
+            take_kind::<0x40>(first, left, builder, CodeKind::SmallInt(value), bytes)
         }
         Ok(CodeKind::SmallString(len)) => {
-            take_kind(first, left, builder, CodeKind::SmallString(len), bytes)
+            take_kind::<0x20>(first, left, builder, CodeKind::SmallString(len), bytes)
         }
-        Ok(CodeKind::Int(1)) => take_kind(first, left, builder, CodeKind::Int(1), bytes),
-        Ok(CodeKind::Int(2)) => take_kind(first, left, builder, CodeKind::Int(2), bytes),
-        Ok(CodeKind::Int(4)) => take_kind(first, left, builder, CodeKind::Int(4), bytes),
-        Ok(CodeKind::Shared(1)) => take_kind(first, left, builder, CodeKind::Shared(1), bytes),
-        Ok(CodeKind::Shared(2)) => take_kind(first, left, builder, CodeKind::Shared(2), bytes),
-        Ok(CodeKind::Shared(4)) => take_kind(first, left, builder, CodeKind::Shared(4), bytes),
+        Ok(CodeKind::Int(1)) => take_kind::<0x00>(first, left, builder, CodeKind::Int(1), bytes),
+        Ok(CodeKind::Int(2)) => take_kind::<0x01>(first, left, builder, CodeKind::Int(2), bytes),
+        Ok(CodeKind::Int(4)) => take_kind::<0x02>(first, left, builder, CodeKind::Int(4), bytes),
+        Ok(CodeKind::Shared(1)) => take_kind::<0x04>(
+            first,
+            left,
+            builder,
+            CodeKind::Shared(1),
+            bytes,
+        ),
+        Ok(CodeKind::Shared(2)) => take_kind::<0x05>(
+            first,
+            left,
+            builder,
+            CodeKind::Shared(2),
+            bytes,
+        ),
+        Ok(CodeKind::Shared(4)) => take_kind::<0x06>(
+            first,
+            left,
+            builder,
+            CodeKind::Shared(4),
+            bytes,
+        ),
         Ok(CodeKind::Double(true)) => {
-            take_kind(first, left, builder, CodeKind::Double(true), bytes)
+            take_kind::<0x0c>(first, left, builder, CodeKind::Double(true), bytes)
         }
         _ => 0,
     }

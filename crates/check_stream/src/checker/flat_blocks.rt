@@ -82,7 +82,7 @@ fn are_fields(
 {
     let mut at = start;
     'fields: for ty in fields {
-        let Some((seen, len)) = inspect(&prefix[at..]) else {
+        let Some((seen, len)) = inspect::<false>(&prefix[at..]) else {
             return false;
         };
         if is_flat_field(table, types, object, *ty, seen) {

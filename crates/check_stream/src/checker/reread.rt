@@ -14,7 +14,7 @@ use marshal_codec::token::{Summary, TokenStep, decode, decode_kind};
 /// Decodes the token that `bytes` begin with, if the token's code is below 0x20.
 #[tactic(auto, unfolding(marshal_spec::specs::format::Code::kind_of))]
 #[inline(always)]
-fn decode_large(code: u8, bytes: &[u8]) -> TokenStep
+fn decode_large<const SKIPS: bool>(code: u8, bytes: &[u8]) -> TokenStep
     requires some { 0 < length bytes.now }
     requires code { slice_index bytes.now 0 ≡ code }
     ensures { IsStep bytes.now result }
@@ -28,10 +28,11 @@ fn decode_large(code: u8, bytes: &[u8]) -> TokenStep
 }
 
 /// Decodes the token that `bytes` begin with. Codes of small blocks, small integers and small
-/// strings have separate branches, and blocks are tested first.
+/// strings have separate branches, and blocks are tested first. The compiler inlines an instance
+/// only if the instance has one caller, so each caller has a value of `SKIPS` of its own.
 #[tactic(auto, unfolding(marshal_spec::specs::format::Code::kind_of))]
 #[inline(always)]
-fn decode_again(bytes: &[u8]) -> TokenStep
+fn decode_again<const SKIPS: bool>(bytes: &[u8]) -> TokenStep
     ensures { IsStep bytes.now result }
 {
     if bytes.is_empty() {
@@ -45,16 +46,16 @@ fn decode_again(bytes: &[u8]) -> TokenStep
     } else if code >= 0x20 {
         decode_kind(CodeKind::SmallString(code % 32), bytes)
     } else {
-        decode_large(code, bytes)
+        decode_large::<SKIPS>(code, bytes)
     }
 }
 
 /// Decodes the first token of `bytes`. Returns the summary of the token, and its length in bytes.
 #[inline(always)]
-pub fn inspect(bytes: &[u8]) -> Option<(Summary, usize)>
+pub fn inspect<const SKIPS: bool>(bytes: &[u8]) -> Option<(Summary, usize)>
     ensures { IfSome result (λ inspect. Inspects bytes.now inspect.0 inspect.1) }
 {
-    let TokenStep::Token(seen, len) = decode_again(bytes) else {
+    let TokenStep::Token(seen, len) = decode_again::<SKIPS>(bytes) else {
         return None;
     };
     Some((seen, len))
@@ -117,7 +118,7 @@ pub fn block_at(
     let mut made = object / 64 * 64;
     'skip: while *left > 0 && at < prefix.len() {
         *left -= 1;
-        let Some((seen, len)) = inspect(&prefix[at..]) else {
+        let Some((seen, len)) = inspect::<true>(&prefix[at..]) else {
             return None;
         };
         at += len;

@@ -19,23 +19,24 @@ use Rattle.marshal_read.proofs.ReaderNextLemmas.{objects_built}
 use Rattle.marshal_read.proofs.CommonLemmas.{advance_fits, common_taken, common_encoded, passes_from}
 use Rattle.marshal_read.proofs.common.take_kind.Goals as goal
 use Rattle.marshal_read.proofs.common.take_kind.Goals.{After-is_sound}
+use Rattle.marshal_read.proofs.common.take_kind.Given.{Over}
 
 -- The kind satisfies its invariant, because some code has the kind.
 pub invariant_of-known : goal.invariant_of-known
-invariant_of-known c = record { known = IsKind-kind_of (get_or c.args.bytes.now 0 0) c.args.kind c.requires.kind }
+invariant_of-known g c = record { known = IsKind-kind_of (get_or c.args.bytes.now 0 0) c.args.kind c.requires.kind }
 
 -- The length `len` is the number of fixed and variable bytes after the token's code.
-len_is : (c : After-is_sound) → c.in-Some.len ≡ fixed_bytes c.args.kind + variable_bytes c.args.kind (drop 1 c.args.bytes.now)
+len_is : {g : Over} (c : After-is_sound g) → c.in-Some.len ≡ fixed_bytes c.args.kind + variable_bytes c.args.kind (drop 1 c.args.bytes.now)
 len_is c = let e : c.in-Some.len ≡ fixed_bytes c.args.kind + variable_bytes c.args.kind c.skip-rest.result.now = search rules in
     subst (λ rest. c.in-Some.len ≡ fixed_bytes c.args.kind + variable_bytes c.args.kind rest) c.skip-rest.ensures e
 
 -- The totals count as many objects as the builder has.
-counted : (c : After-is_sound) (n : ℕ) (header : List ℕ) (before : List (List ℕ)) (position : ReadTotals) → StandsInRun c.args.first.now n header before position c.args.left.now c.args.builder.now
+counted : {g : Over} (c : After-is_sound g) (n : ℕ) (header : List ℕ) (before : List (List ℕ)) (position : ReadTotals) → StandsInRun c.args.first.now n header before position c.args.left.now c.args.builder.now
     → position.objects ≡ c.count-objects.result
 counted c n header before position h = sym (c.count-objects.ensures ∙ objects_built header before position c.args.builder.now h.builds ∙ h.builds.sums.objects)
 
 -- If the token fits the remaining room, then the totals advance by the token.
-moved : (c : After-is_sound) → c.spend.result ≡ true → c.is_sound.result ≡ true → (n : ℕ) (header : List ℕ) (before : List (List ℕ)) (position : ReadTotals) → StandsInRun c.args.first.now n header before position c.args.left.now c.args.builder.now
+moved : {g : Over} (c : After-is_sound g) → c.spend.result ≡ true → c.is_sound.result ≡ true → (n : ℕ) (header : List ℕ) (before : List (List ℕ)) (position : ReadTotals) → StandsInRun c.args.first.now n header before position c.args.left.now c.args.builder.now
     → (next : ReadTotals) × LeavesRoom c.args.first.now (n + (1 + c.in-Some.len)) next c.spend.new.self × Advances position (1 + c.in-Some.len) (measure_after c.args.kind c.skip-rest.result.now) next true
 moved c e sound n header before position h =
     let rest = c.skip-rest.result.now in
@@ -50,7 +51,7 @@ moved c e sound n header before position h =
     (subst (AreFew words64 (measure_after c.args.kind rest)) l (few_words64 c.args.kind rest))
 
 -- If the totals advance by the token, then the token passes.
-passes : (c : After-is_sound) → (n : ℕ) (header : List ℕ) (before : List (List ℕ)) (position next : ReadTotals) → StandsInRun c.args.first.now n header before position c.args.left.now c.args.builder.now
+passes : {g : Over} (c : After-is_sound g) → (n : ℕ) (header : List ℕ) (before : List (List ℕ)) (position next : ReadTotals) → StandsInRun c.args.first.now n header before position c.args.left.now c.args.builder.now
     → Advances position (1 + c.in-Some.len) (measure_after c.args.kind c.skip-rest.result.now) next true → PassesTo position (get_or c.args.bytes.now 0 0) c.args.kind (drop 1 c.args.bytes.now) next
 passes c n header before position next h advances =
     let rest = c.skip-rest.result.now in
@@ -64,12 +65,12 @@ passes c n header before position next h advances =
     (passes_from position next (get_or c.args.bytes.now 0 0) c.args.kind rest c.in-Some.len (measure_after c.args.kind rest) l within plain sound refl advances)
 
 -- The first `len` bytes after the code are the token's fixed and variable bytes.
-after_code : (c : After-is_sound) → take (fixed_bytes c.args.kind + variable_bytes c.args.kind (drop 1 c.args.bytes.now)) (drop 1 c.args.bytes.now) ≡ take c.in-Some.len c.skip-rest.result.now
+after_code : {g : Over} (c : After-is_sound g) → take (fixed_bytes c.args.kind + variable_bytes c.args.kind (drop 1 c.args.bytes.now)) (drop 1 c.args.bytes.now) ≡ take c.in-Some.len c.skip-rest.result.now
 after_code c = ap (λ n. take n (drop 1 c.args.bytes.now)) (sym (len_is c)) ∙ ap (take c.in-Some.len) (sym c.skip-rest.ensures)
 
 pub decode_in_room-requires-clause-fits : goal.decode_in_room-requires-clause-fits
-decode_in_room-requires-clause-fits c =
-    let d = (goal.at.decode_in_room-requires-clause-fits c).After-is_sound in
+decode_in_room-requires-clause-fits g c =
+    let d = (goal.at.decode_in_room-requires-clause-fits g c).After-is_sound in
     let rest = c.skip-rest.result.now in
     let r = c.requires.stands in
     let m = moved d (search rules) (search rules) r.0 r.1 r.2 r.3 r.4 in
@@ -78,8 +79,8 @@ decode_in_room-requires-clause-fits c =
     subst (Fits c.args.builder.now) (sym (measure_after-take c.args.kind c.in-Some.len rest (omega (arith, fields_fit c.args.kind)))) fits
 
 pub decode_in_room-requires-clause-encoded : goal.decode_in_room-requires-clause-encoded
-decode_in_room-requires-clause-encoded c =
-    let d = (goal.at.decode_in_room-requires-clause-encoded c).After-is_sound in
+decode_in_room-requires-clause-encoded g c =
+    let d = (goal.at.decode_in_room-requires-clause-encoded g c).After-is_sound in
     let r = c.requires.stands in
     let m = moved d (search rules) (search rules) r.0 r.1 r.2 r.3 r.4 in
     let is_open : 0 < r.3.pending = omega (arith, r.4.leaves.pending) in
@@ -88,8 +89,8 @@ decode_in_room-requires-clause-encoded c =
     c.args.kind c.requires.kind (passes d r.0 r.1 r.2 r.3 m.0 r.4 m.2))
 
 pub returns : goal.returns
-returns c = λ n header before position h.
-    let d = (goal.at.returns c).After-is_sound in
+returns g c = λ n header before position h.
+    let d = (goal.at.returns g c).After-is_sound in
     let m = moved d (search rules) (search rules) n header before position h in
     let is_open : 0 < position.pending = omega (arith, h.leaves.pending) in
     let adds : (t : Token) → EncodesAfter c.args.kind (take c.in-Some.len c.skip-rest.result.now) t → c.decode_in_room.new.builder ≡ absorb_in c.args.builder.now t = search rules in (
