@@ -1,6 +1,6 @@
 //! The error line and the status of an exit reason.
 
-ghost use Rattle.std.specs.Prelude.{◌≡◌, ◌++◌, codes, decimal, IfOk, OnOk};
+ghost use Rattle.std.specs.Prelude.{◌≡◌, ◌++◌, codes, decimal, IfOk, OnOk, string_bytes};
 ghost use Rattle.cli_spec.specs.Outcome.{status_of, exit_text, exit_line, err_line};
 ghost use Rattle.cli_spec.specs.Outcome.{value_text as text_of_value};
 ghost use Rattle.cli_spec.specs.declared.exit.Exit.TheVariants.{Script as script_line};
@@ -16,7 +16,7 @@ use base_data::text::write;
 use base_io::{Failed, Sink};
 use cli_spec::exit::Exit;
 use cli_spec::status::Status;
-use std::alloc::Global;
+use std::alloc::{AllocError, Global};
 
 /// The reason why no more values are read: an exit reason of the run, or a failed write to standard
 /// output.
@@ -115,12 +115,22 @@ fn write_value(line: &mut Vec<u8>, alloc: Global, number: u64, text: &[u8]) -> R
     write_numbered(line, alloc, b"value ", number, text)
 }
 
+// Returns the text before the fault of a script line, with the line's number.
+fn line_prefix(alloc: Global, number: usize) -> Result<String, AllocError>
+    ensures { IfOk result
+        (λ text. string_bytes text ≡ codes "script line " ++ decimal number ++ codes ": ") }
+{
+    format!(in alloc; "script line {number}: ")
+}
+
 // Appends the text of the fault of a script line.
 fn write_script(line: &mut Vec<u8>, alloc: Global, number: usize, text: &[u8]) -> Result<(), Memory>
     ensures { OnOk result
         (line.new.items ≡ line.old.items ++ exit_text (script_line number text.now)) }
 {
-    write_numbered(line, alloc, b"script line ", number as u64, text)
+    let prefix = line_prefix(alloc, number)?;
+    write(line, prefix.as_bytes())?;
+    write(line, text)
 }
 
 // Appends the text of an exit reason.
