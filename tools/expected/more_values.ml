@@ -92,6 +92,7 @@ let textbook () =
       opened = `B 4;
       empty = { lists = []; nothing = None; held = 5 };
       tree = Tree (Labeled (Leaf one, [ Leaf (Int 6) ]));
+      kinds = ([ Kind ("one", List (List Number)); Kind ("two", Named { name = "two" }) ], Packed Number);
     }
   in
   write "yes" "'none textbook_expr_at_int" one;
@@ -106,6 +107,8 @@ let textbook () =
   write "no" "'none textbook_all" { all with sum = Program { body = Obj.magic one; parts = [] } };
   write "no" "'none textbook_all" { all with sum = Constant (Obj.magic 2) };
   write "no" "'none textbook_all" { all with tree = Leaf (Obj.magic all.bool) };
+  write "no" "'none textbook_all" { all with kinds = ([], Packed (Named { name = Obj.magic 1 })) };
+  write "no" "'none textbook_all" { all with kinds = ([ Kind ("one", Obj.magic 1) ], Packed Number) };
   write "no" "'none textbook_all" { all with tree = Tree (Labeled (Obj.magic 1, [])) };
   write "no" "'none textbook_all" { all with named = { all.named with pairs = [ Obj.magic (1, 2) ] } };
   write "no" "'none textbook_all" { all with opened = Obj.magic `C };

@@ -15,7 +15,9 @@ type any = Any : 'a -> any
 type _ numbered = Bool : bool numbered | Int : int numbered
 type _ expr = Int : int -> int expr | Not : bool expr -> bool expr
 type 'a of_expr = { expr : 'a expr }
-type some_expr = Some_expr : 'a of_expr -> some_expr
+type some_expr = Some_expr : 'a of_expr * 'a of_expr -> some_expr
+type some_exprs = Some_exprs : 'a expr list -> some_exprs
+type some_list = Some_list : 'a list expr -> some_list
 type _ tagged = Hidden_one : hidden tagged | Int_one : int tagged
 
 and hidden

@@ -11,6 +11,11 @@ type _ expr =
 type 'a program = { body : 'a expr; parts : 'a program list }
 type 'a sum = Program of 'a program | Constant of 'a
 
+(* A generalized type at some index that nothing else depends on *)
+type _ kind = Number : int kind | List : 'a kind -> 'a list kind | Named : { name : string } -> 'a kind
+type any_kind = Kind : string * 'a kind -> any_kind
+type packed_kind = Packed : 'a kind -> packed_kind [@@unboxed]
+
 (* A parameter with a constraint; types without values, and a field of every type *)
 type 'a pairs = 'a list constraint 'a = int * 'b
 type ('a, 'b) named_pairs = { pairs : (int * 'a) pairs; name : 'b }
@@ -30,4 +35,5 @@ type all = {
   opened : [ `A | `B of int ] opened;
   empty : int empty;
   tree : tree;
+  kinds : any_kind list * packed_kind;
 }

@@ -42,7 +42,7 @@ let () =
       record = { polymorphic = ([], Obj.repr 8); array = any [| 1.; 2. |] };
       measure = { size = 1.5; scale = any 2.5 };
       scaled = { scaled = 3.5; by = any 4.5 };
-      some_expr = Some_expr { expr = Int 6 };
+      some_expr = Some_expr ({ expr = Int 6 }, { expr = Int 7 });
       gone = 9;
       cell;
     }

@@ -44,6 +44,7 @@ type scope = {
   variables : (type_expr * string) list;  (** the names of type variables *)
   parameters : string list;  (** those of the declaration that is read *)
   declared : Path.t option;  (** its path, if it has parameters *)
+  parts : type_expr list;  (** the types of the parts of its constructor or record, or what it abbreviates *)
   enclosing : enclosing list;
   way : way;
 }

@@ -250,7 +250,7 @@ let run arguments =
   let { looks_inside; lets_any; by_hand; _ } = words in
   let reader = List.fold_left add_by_hand (new_reader environment ~looks_inside ~lets_any) by_hand in
   let requested = requested_type reader words.requested in
-  let scope = { variables = []; parameters = []; declared = None; enclosing = []; way = []; owner = "requested" } in
+  let scope = { variables = []; parameters = []; declared = None; parts = []; enclosing = []; way = []; owner = "requested" } in
   let read_once reader =
     let root = read_type reader scope requested in
     read_waiting reader;

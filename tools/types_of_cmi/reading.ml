@@ -154,8 +154,29 @@ let reach_instance reader scope path index =
   reach reader scope.way own_path;
   Applied (Declared own_path, [])
 
+(* How often a variable occurs in a type. *)
+let occurrences variable ty =
+  let rec count around ty =
+    if Compat.same ty variable then 1
+    else if List.exists (Compat.same ty) around then 0
+    else begin
+      let total = ref 0 in
+      Compat.iter_parts (fun part -> total := !total + count (ty :: around) part) ty;
+      !total
+    end
+  in
+  count [] ty
+
+(* Whether a type is a part at an index that nothing else in the parts has to do with. The part then has the type at some
+   index, and that is the type at any one. *)
+let is_at_free_index scope ty index =
+  let total variable = List.fold_left (fun total part -> total + occurrences variable part) 0 scope.parts in
+  List.exists (Compat.same ty) scope.parts
+  && List.for_all (fun ty -> is_variable ty && total ty = 1) index
+  && are_distinct index
+
 (* A type that gives an index is itself read at an index, from the beginning on. *)
-let read_generalized reader scope path arguments =
+let read_generalized reader scope ty path arguments =
   let gives { declared; variables; _ } =
     match declared with
     | Some declared when List.exists (fun (variable, _) -> List.exists (Ctype.deep_occur variable) arguments) variables ->
@@ -165,6 +186,7 @@ let read_generalized reader scope path arguments =
   match (index_fault arguments, gives scope) with
   | None, _ -> reach_instance reader scope path (Some (List.map (plain reader) arguments))
   | Some _, Some declared -> raise (Gives_index declared)
+  | Some _, None when is_at_free_index scope ty arguments -> reach_instance reader scope path None
   | Some what, None when reader.lets_any ->
       note reader ~instead:"all its constructors, of" (text_of_path reader path :: scope.way) what;
       reach_instance reader scope path None
@@ -190,7 +212,7 @@ let rec read_type reader scope ty =
 
 and read_parts reader scope ty =
   match as_generalized reader ty with
-  | Some (path, arguments) -> read_generalized reader scope path arguments
+  | Some (path, arguments) -> read_generalized reader scope ty path arguments
   | None -> read_shape reader scope ty
 
 and read_shape reader scope ty =
@@ -256,7 +278,13 @@ let read_field read reader scope { ld_id; ld_mutable; ld_type; _ } =
   check_name reader scope label;
   { changes = ld_mutable = Asttypes.Mutable; label; holds = read reader scope ld_type }
 
-let read_arguments reader scope = function
+let types_of_arguments = function
+  | Cstr_tuple types -> types
+  | Cstr_record labels -> List.map (fun { ld_type; _ } -> ld_type) labels
+
+let read_arguments reader scope arguments =
+  let scope = { scope with parts = types_of_arguments arguments } in
+  match arguments with
   | Cstr_record labels -> Inline (List.map (read_field read_type reader scope) labels)
   | Cstr_tuple [ ty ] -> Separate [ read_type reader scope ty ]
   | Cstr_tuple types ->
@@ -302,13 +330,8 @@ let at_index reader parameters index ({ cd_args; cd_res; _ } as constructor) =
   let result =
     match Option.map Compat.shape cd_res with Some (Tconstr (_, arguments, _)) -> arguments | _ -> parameters
   in
-  let parts =
-    match cd_args with
-    | Cstr_tuple types -> types
-    | Cstr_record labels -> List.map (fun { ld_type; _ } -> ld_type) labels
-  in
   let tuple types = Btype.newgenty (Compat.tuple (List.map (fun ty -> (None, ty)) types)) in
-  let all = tuple [ tuple (List.map (plain reader) result); tuple index; tuple parts ] in
+  let all = tuple [ tuple (List.map (plain reader) result); tuple index; tuple (types_of_arguments cd_args) ] in
   let tuple_parts ty = match Compat.shape ty with Ttuple parts -> unlabeled parts | _ -> [] in
   match tuple_parts (Ctype.instance all) with
   | [ result; index; parts ] -> (
@@ -392,6 +415,12 @@ let repeats_a_known_type reader path declaration =
   | Some _ | None -> false
 
 let read_body reader scope path declaration =
+  let parts =
+    match declaration with
+    | { type_kind = Type_record (labels, _); _ } -> types_of_arguments (Cstr_record labels)
+    | { type_manifest; _ } -> Option.to_list type_manifest
+  in
+  let scope = { scope with parts } in
   match (declaration.type_kind, declaration.type_manifest) with
   | _ when Path.name path = "Stdlib__Domain.DLS.key" ->
       Abbreviation (refuse reader scope.way "a key of domain-local storage (Domain.DLS)")
@@ -422,7 +451,7 @@ let read_declaration reader path way (origin, declaration) =
     | None -> Abbreviation (refuse reader way "a parameter with a constraint")
     | Some variables ->
         let owner = text_of_path reader path in
-        let scope = { variables; parameters; declared = Some path; enclosing = []; way; owner } in
+        let scope = { variables; parameters; declared = Some path; parts = []; enclosing = []; way; owner } in
         read_body reader scope path declaration
   in
   reader.declarations <- { path; parameters; body; origin; reached = way } :: reader.declarations
@@ -437,7 +466,7 @@ let at_arguments reader declaration index =
 let read_instance reader way { generalized; index; own_path } =
   let scope =
     let owner = text_of_path reader own_path in
-    { variables = []; parameters = []; declared = None; enclosing = []; way; owner }
+    { variables = []; parameters = []; declared = None; parts = []; enclosing = []; way; owner }
   in
   let declare origin body =
     reader.declarations <- { path = own_path; parameters = []; body; origin; reached = way } :: reader.declarations
