@@ -31,10 +31,10 @@ fn after_code(bytes: &[u8]) -> &[u8]
 }
 
 /// Reads the next token, whose kind is `kind`, if the token surely passes, is not the last one and
-/// needs no new memory.
+/// needs no new memory. Each caller has a `CODE` of its own, and therefore each call is inlined.
 #[tactic(auto, using(crate::proofs::ReaderSizeLemmas::measure_small))]
 #[inline(always)]
-fn run_kind(
+fn run_kind<const CODE: u8>(
     first: &ReadTotals,
     now: &mut Run,
     builder: &mut Builder,
@@ -93,16 +93,16 @@ fn run_large(first: &ReadTotals, now: &mut Run, builder: &mut Builder, bytes: &[
         builder.new result }
 {
     match bytes[0] {
-        0x00 => run_kind(first, now, builder, CodeKind::Int(1), bytes),
-        0x01 => run_kind(first, now, builder, CodeKind::Int(2), bytes),
-        0x02 => run_kind(first, now, builder, CodeKind::Int(4), bytes),
-        0x03 => run_kind(first, now, builder, CodeKind::Int(8), bytes),
-        0x04 => run_kind(first, now, builder, CodeKind::Shared(1), bytes),
-        0x05 => run_kind(first, now, builder, CodeKind::Shared(2), bytes),
-        0x06 => run_kind(first, now, builder, CodeKind::Shared(4), bytes),
-        0x08 => run_kind(first, now, builder, CodeKind::Block(4), bytes),
-        0x09 => run_kind(first, now, builder, CodeKind::Str(1), bytes),
-        0x0c => run_kind(first, now, builder, CodeKind::Double(true), bytes),
+        0x00 => run_kind::<0x00>(first, now, builder, CodeKind::Int(1), bytes),
+        0x01 => run_kind::<0x01>(first, now, builder, CodeKind::Int(2), bytes),
+        0x02 => run_kind::<0x02>(first, now, builder, CodeKind::Int(4), bytes),
+        0x03 => run_kind::<0x03>(first, now, builder, CodeKind::Int(8), bytes),
+        0x04 => run_kind::<0x04>(first, now, builder, CodeKind::Shared(1), bytes),
+        0x05 => run_kind::<0x05>(first, now, builder, CodeKind::Shared(2), bytes),
+        0x06 => run_kind::<0x06>(first, now, builder, CodeKind::Shared(4), bytes),
+        0x08 => run_kind::<0x08>(first, now, builder, CodeKind::Block(4), bytes),
+        0x09 => run_kind::<0x09>(first, now, builder, CodeKind::Str(1), bytes),
+        0x0c => run_kind::<0x0c>(first, now, builder, CodeKind::Double(true), bytes),
         _ => 0,
     }
 }
@@ -131,7 +131,7 @@ fn run_one(first: &ReadTotals, now: &mut Run, builder: &mut Builder, bytes: &[u8
     if code >= 0x80 {
         let size = code / 16 % 8;
         if size == 0 {
-            return run_kind(
+            return run_kind::<0x80>(
                 first,
                 now,
                 builder,
@@ -140,13 +140,13 @@ fn run_one(first: &ReadTotals, now: &mut Run, builder: &mut Builder, bytes: &[u8
             );
         }
         let kind = CodeKind::SmallBlock(code % 16, size);
-        return run_kind(first, now, builder, kind, bytes);
+        return run_kind::<0x90>(first, now, builder, kind, bytes);
     }
     if code >= 0x40 {
-        return run_kind(first, now, builder, CodeKind::SmallInt(code % 64), bytes);
+        return run_kind::<0x40>(first, now, builder, CodeKind::SmallInt(code % 64), bytes);
     }
     if code >= 0x20 {
-        return run_kind(first, now, builder, CodeKind::SmallString(code % 32), bytes);
+        return run_kind::<0x20>(first, now, builder, CodeKind::SmallString(code % 32), bytes);
     }
     run_large(first, now, builder, bytes)
 }

@@ -1,7 +1,7 @@
 //! Computes the size of a token's contents and of its object from the bytes after its code.
 
-ghost use Rattle.std.specs.Prelude.{◌≡◌, ◌≤◌, ◌<◌, ◌^◌, length};
-ghost use Rattle.base_data.specs.model.Bytes.{number_in};
+ghost use Rattle.std.specs.Prelude.{◌≡◌, ◌≤◌, ◌<◌, ◌^◌, length, take};
+ghost use Rattle.base_data.specs.model.Bytes.{number, number_in};
 ghost use Rattle.marshal_spec.specs.format.Raw.{field_bytes, variable_bytes, measure_after};
 ghost use Rattle.marshal_spec.specs.format.Raw.{custom_measure, block_measure};
 ghost use Rattle.marshal_spec.specs.format.Words.{of_object, fields};
@@ -67,7 +67,19 @@ pub fn custom_measure_of(custom: Option<CustomKind>) -> Option<Measure>
     }
 }
 
+/// Decodes the number in the first `width` bytes. The function is not inlined, and therefore
+/// `measure_at` stays small enough to be inlined.
+#[inline(never)]
+fn stated_number(rest: &[u8], width: u8) -> u64
+    requires few { width ≤ 8 }
+    requires whole { width ≤ length rest.now }
+    ensures { result ≡ number (take width rest.now) }
+{
+    number_at(rest, width)
+}
+
 /// Returns the measure of the object that the token makes, or `None` if the token makes no object.
+#[inline(always)]
 pub fn measure_at(kind: KnownKind, rest: &[u8]) -> Option<Measure>
     requires whole { field_bytes kind.kind ≤ length rest.now }
     ensures measure { result ≡ measure_after kind.kind rest.now }
@@ -77,10 +89,10 @@ pub fn measure_at(kind: KnownKind, rest: &[u8]) -> Option<Measure>
         CodeKind::SmallBlock(_, size) => block_measure_of(u64::from(size)),
         CodeKind::SmallInt(_) | CodeKind::Int(_) | CodeKind::Shared(_) => None,
         CodeKind::SmallString(len) => Some(Measure::Bytes(u64::from(len))),
-        CodeKind::Block(width) => block_measure_of(number_at(rest, width) / 1024),
-        CodeKind::Str(width) => Some(Measure::Bytes(number_at(rest, width))),
+        CodeKind::Block(width) => block_measure_of(stated_number(rest, width) / 1024),
+        CodeKind::Str(width) => Some(Measure::Bytes(stated_number(rest, width))),
         CodeKind::Double(_) => Some(Measure::Double),
-        CodeKind::Doubles(width, _) => Some(Measure::Doubles(number_at(rest, width))),
+        CodeKind::Doubles(width, _) => Some(Measure::Doubles(stated_number(rest, width))),
         CodeKind::Custom(_) => custom_measure_of(custom_at(rest)),
     }
 }

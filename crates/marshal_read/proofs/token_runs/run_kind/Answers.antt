@@ -19,13 +19,14 @@ use Rattle.marshal_read.proofs.ReaderNextLemmas.{objects_built}
 use Rattle.marshal_read.proofs.CommonLemmas.{advance_fits, common_taken, common_encoded, passes_from}
 use Rattle.marshal_read.proofs.token_runs.run_kind.Goals as goal
 use Rattle.marshal_read.proofs.token_runs.run_kind.Goals.{After-spend}
+use Rattle.marshal_read.proofs.token_runs.run_kind.Given.{Over}
 
 -- The kind satisfies its invariant, because some code has the kind.
 pub invariant_of-known : goal.invariant_of-known
-invariant_of-known c = record { known = IsKind-kind_of (get_or c.args.bytes.now 0 0) c.args.kind c.requires.kind }
+invariant_of-known g c = record { known = IsKind-kind_of (get_or c.args.bytes.now 0 0) c.args.kind c.requires.kind }
 
 pub spend-requires-clause-room : goal.spend-requires-clause-room
-spend-requires-clause-room c =
+spend-requires-clause-room g c =
     let r = c.requires.runs in
     let rest = c.after_code-rest.result.now in
     let measure : c.measure_at.result ≡ measure_after c.args.kind rest = search rules in
@@ -33,12 +34,12 @@ spend-requires-clause-room c =
     extra_room r.4 r.5 c.args.now.now (of_object words32 c.measure_at.result) r.7 (subst (λ o. of_object words32 o ≤ r.5.w32) (sym measure) words)
 
 -- The length `len` is the number of fixed and variable bytes after the token's code.
-len_is : (c : After-spend) → c.in-Some.len ≡ fixed_bytes c.args.kind + variable_bytes c.args.kind (drop 1 c.args.bytes.now)
+len_is : {g : Over} (c : After-spend g) → c.in-Some.len ≡ fixed_bytes c.args.kind + variable_bytes c.args.kind (drop 1 c.args.bytes.now)
 len_is c = let e : c.in-Some.len ≡ fixed_bytes c.args.kind + variable_bytes c.args.kind c.after_code-rest.result.now = search rules in
     subst (λ rest. c.in-Some.len ≡ fixed_bytes c.args.kind + variable_bytes c.args.kind rest) c.after_code-rest.ensures e
 
 -- If the token leaves a value pending in the run, then the totals advance by the token.
-moved : (c : After-spend) → c.spend.result ≡ true → (n : ℕ) (header : List ℕ) (before : List (List ℕ)) (position : ReadTotals) (from left : RemainingRoom) → StandsInRun c.args.first.now n header before position left c.args.builder.now
+moved : {g : Over} (c : After-spend g) → c.spend.result ≡ true → (n : ℕ) (header : List ℕ) (before : List (List ℕ)) (position : ReadTotals) (from left : RemainingRoom) → StandsInRun c.args.first.now n header before position left c.args.builder.now
     → RunsTokens from left c.args.now.now → HasEnough left
     → (next : ReadTotals) × (left' : RemainingRoom) × LeavesRoom c.args.first.now (n + (1 + c.in-Some.len)) next left' × RunsTokens from left' c.spend.new.self × KeepsRoom left (1 + c.in-Some.len) left'
     × Advances position (1 + c.in-Some.len) (measure_after c.args.kind c.after_code-rest.result.now) next true
@@ -52,7 +53,7 @@ moved c e n header before position from left h runs enough =
     (subst (AreFew words64 (measure_after c.args.kind rest)) l (few_words64 c.args.kind rest))
 
 -- If the totals advance by the token, then the token passes.
-passes : (c : After-spend) → (n : ℕ) (header : List ℕ) (before : List (List ℕ)) (position next : ReadTotals) (left : RemainingRoom) → StandsInRun c.args.first.now n header before position left c.args.builder.now
+passes : {g : Over} (c : After-spend g) → (n : ℕ) (header : List ℕ) (before : List (List ℕ)) (position next : ReadTotals) (left : RemainingRoom) → StandsInRun c.args.first.now n header before position left c.args.builder.now
     → Advances position (1 + c.in-Some.len) (measure_after c.args.kind c.after_code-rest.result.now) next true → PassesTo position (get_or c.args.bytes.now 0 0) c.args.kind (drop 1 c.args.bytes.now) next
 passes c n header before position next left h advances =
     let rest = c.after_code-rest.result.now in
@@ -66,12 +67,12 @@ passes c n header before position next left h advances =
     (passes_from position next (get_or c.args.bytes.now 0 0) c.args.kind rest c.in-Some.len (measure_after c.args.kind rest) l within plain sound refl advances)
 
 -- The first `len` bytes after the code are the token's fixed and variable bytes.
-after_code : (c : After-spend) → take (fixed_bytes c.args.kind + variable_bytes c.args.kind (drop 1 c.args.bytes.now)) (drop 1 c.args.bytes.now) ≡ take c.in-Some.len c.after_code-rest.result.now
+after_code : {g : Over} (c : After-spend g) → take (fixed_bytes c.args.kind + variable_bytes c.args.kind (drop 1 c.args.bytes.now)) (drop 1 c.args.bytes.now) ≡ take c.in-Some.len c.after_code-rest.result.now
 after_code c = ap (λ n. take n (drop 1 c.args.bytes.now)) (sym (len_is c)) ∙ ap (take c.in-Some.len) (sym c.after_code-rest.ensures)
 
 pub decode_in_room-requires-clause-fits : goal.decode_in_room-requires-clause-fits
-decode_in_room-requires-clause-fits c =
-    let d = (goal.at.decode_in_room-requires-clause-fits c).After-spend in
+decode_in_room-requires-clause-fits g c =
+    let d = (goal.at.decode_in_room-requires-clause-fits g c).After-spend in
     let rest = c.after_code-rest.result.now in
     let r = c.requires.runs in
     let m = moved d (search rules) r.0 r.1 r.2 r.3 r.4 r.5 r.6 r.7 r.8 in
@@ -80,8 +81,8 @@ decode_in_room-requires-clause-fits c =
     subst (Fits c.args.builder.now) (sym (measure_after-take c.args.kind c.in-Some.len rest (omega (arith, fields_fit c.args.kind)))) fits
 
 pub decode_in_room-requires-clause-encoded : goal.decode_in_room-requires-clause-encoded
-decode_in_room-requires-clause-encoded c =
-    let d = (goal.at.decode_in_room-requires-clause-encoded c).After-spend in
+decode_in_room-requires-clause-encoded g c =
+    let d = (goal.at.decode_in_room-requires-clause-encoded g c).After-spend in
     let r = c.requires.runs in
     let m = moved d (search rules) r.0 r.1 r.2 r.3 r.4 r.5 r.6 r.7 r.8 in
     let is_open : 0 < r.3.pending = omega (arith, r.6.leaves.pending, r.7.pending, c.requires.«open») in
@@ -90,8 +91,8 @@ decode_in_room-requires-clause-encoded c =
     c.args.kind c.requires.kind (passes d r.0 r.1 r.2 r.3 m.0 r.5 r.6 m.5))
 
 pub returns : goal.returns
-returns c = λ n header before position from left h runs enough.
-    let d = (goal.at.returns c).After-spend in
+returns g c = λ n header before position from left h runs enough.
+    let d = (goal.at.returns g c).After-spend in
     let m = moved d (search rules) n header before position from left h runs enough in
     let is_open : 0 < position.pending = omega (arith, h.leaves.pending, runs.pending, c.requires.«open») in
     let goes : StaysPending c.args.now.now (measure_after c.args.kind c.after_code-rest.result.now) c.spend.new.self = search rules in
