@@ -239,6 +239,30 @@ declarations found.types > cut.types
 same "parts that are _ by hand" wanted.types cut.types
 same "what is reported of parts that are _ by hand" wanted.txt word.txt
 
+# A record of floats and of `_` by hand: nothing says whether it is flat, so it is refused, or is `_`, and so is what it then leaves mixed
+made found.types --any --declare 'Refused.job = { rate : float; run : _ } and outer = { scale : float; job : Refused.job }' \
+    --declare 'Refused.counter = { factor : float; by : Refused.job }' 'Refused.counter list * Refused.queue'
+cat > wanted.types << 'END'
+(* Refused.job, by hand *)
+type refused_job = _
+
+(* Refused.counter, by hand *)
+type refused_counter = _
+
+(* Refused.queue *)
+type refused_queue =
+  | Empty
+  | Jobs of { first : refused_job list; rest : refused_queue }
+END
+declarations found.types > cut.types
+same "records of floats and of _ by hand" wanted.types cut.types
+if ./types_of_cmi --declare 'Refused.job = { rate : float; run : _ }' Refused.job > found.types 2> word.txt; then
+    echo "FAILED: a record of floats and of _ by hand is not refused"
+    failures=$((failures + 1))
+fi
+echo 'types_of_cmi: Refused.job: a record of floats and _' > wanted.txt
+same "what is reported of a record of floats and of _ by hand" wanted.txt word.txt
+
 # A type that stands in an implementation alone, by another name of its module; an index that is hidden
 made found.types --cmt 'Shut_names.Part.size * Hidden.meters Indexed.length'
 cat > wanted.types << 'END'

@@ -457,6 +457,7 @@ class Declarations:
             refuse_if(name in self.abbreviations_below(name), f"Cyclic: {name}")
         for name, (params, body) in self.table.items():
             self.check_float_in_group(name, body)
+            self.check_mixed_record(name, body)
             for form in types_of_body(body):
                 self.check_tags(form)
 
@@ -520,6 +521,12 @@ class Declarations:
             while form[0] == "app" and form[1] in self.table:
                 refuse_if(self.group[form[1]] == self.group[name], f"FloatInGroup: {name}")
                 form = self.expand_once(form)
+
+    def check_mixed_record(self, name, body):
+        if body[0] == "record":
+            floats = [self.is_float(form) for _, _, form in body[1]]
+            hidden = [self.expand(form)[:2] == ("app", "_") for _, _, form in body[1]]
+            refuse_if(any(floats) and any(hidden) and all(map(max, floats, hidden)), f"MixedRecord: {name}")
 
     def expand_once(self, form):
         params, (_, content) = self.table[form[1]]

@@ -101,6 +101,8 @@ LIST = Block(0, 1, Block(0, 2, 0))
 TAGGED = Block(0, integer(65), text("x"))
 EACH = [5, atom(0), atom(9), text("abc"), double(1.0), doubles(1.0, 2.0), int32(7), int64(7), native(7), Block(7, 1, 2), cyclic(), SHARED]
 RECORD = "type item = { name : string; mutable owner : _ }"
+MIXED = "type r = { x : float; y : _ }"
+INLINE = "type r = R of { x : float; y : _ }"
 ROUGH = "no .0 and .1: _ ref and int ref share a mutable object"
 
 PAIRS = (Block(0, 1, 2), Block(0, 3, 4))
@@ -198,6 +200,16 @@ CASES = (
         (["check", "_"], 5, "type _ = int", None, "types: Twice at 5", 3),
         (["check", "[ _ | `A ]"], 5, "", None, "type: NotVariant at 2", 3),
         (["show", "t"], Block(0, 5), "type t = { _ : int }", ["{_ = 5}"], "", 0),
+        # whether a record of floats is flat does not depend on what is hidden
+        (["check", "r"], Block(0, double(1.0), 5), MIXED, None, "types: MixedRecord at 5", 3),
+        (["check", "r"], doubles(1.0, 2.0), MIXED, None, "types: MixedRecord at 5", 3),
+        (["check", "int"], 5, MIXED, None, "types: MixedRecord at 5", 3),
+        (["check", "r"], Block(0, double(1.0), 5), INLINE, ["yes"], "", 0),
+        (["show", "r"], Block(0, double(1.0), double(2.0)), INLINE, ["R{x = $3ff0000000000000; y = _}"], "", 0),
+        (["check", "r"], doubles(1.0, 2.0), INLINE, ["no .: expected r, found float array of 2"], "", 1),
+        # another rule is broken too
+        (["check", "int"], 5, "type r = { x : float; y : _ } type s = { x : f } and f = float", None, "types: FloatInGroup at 35", 3),
+        (["check", "t"], 5, MIXED, None, "types: MixedRecord at 5", 3),
     ]
 )
 
@@ -221,6 +233,35 @@ TEXTS = [
     ("type (_, _) t over type ('a, 'b) t = 'a * 'b", "accepted"),
     ("type int _ over ", "type: Arity at 4"),
 ]
+
+# FILE with a mark before the name of the first mixed record, or without a mark where none is mixed
+RECORDS = [
+    "type r = { x : float; y : float }",
+    "type r = { x : _; y : _ }",
+    "type r = { x : float; y : _; z : int }",
+    "type r = { x : float; y : _ list }",
+    "type r = { x : float array; y : _ }",
+    "type 'a r = { x : 'a; y : _ } type s = float r",
+    "type 'a r = { x : float; y : 'a } type s = _ r",
+    "type r = float * _",
+    "type r = R of { x : float; y : _ }",
+    "type r = { x : float; y : int } type h = _",
+    "type ¦r = { x : float; y : _ }",
+    "type ¦r = { y : _; mutable x : float; z : float; }",
+    "type f = float type h = _ type ¦r = { x : f; y : h }",
+    "type ¦r = { x : float; y : h } and h = _",
+    "type ¦r = { x : f; y : _ } and f = float",
+    "type 'a id = 'a type ¦r = { x : float id; y : _ id }",
+    "type 'a h = _ type 'a ¦r = { x : float; y : 'a h }",
+    "type t = { x : int } and ¦r = { x : float; y : _ } and s = { y : _; x : float }",
+    "type a = A of { x : float; y : _ } type ¦r = { x : float; y : _ }",
+]
+
+
+def mixed(marked):
+    """The question about a FILE, and its answer."""
+    before, mark, after = marked.partition("¦")
+    return "decls " + before + after, f"types: MixedRecord at {len(before)}" if mark else "accepted"
 
 
 def changed(what):
@@ -257,7 +298,7 @@ def run(words, given, file, out, err, status):
 
 
 def main():
-    rows = [(question, [answer]) for question, answer in TEXTS]
+    rows = [(question, [answer]) for question, answer in TEXTS + [mixed(record) for record in RECORDS]]
     for type_text, file, lines in SHAPES:
         rows.append((f"table {type_text} over {file}", [f"expands to {type_text}"] + lines))
     rows += [run(*case) for case in CASES]

@@ -5,9 +5,12 @@ the position, whose line and column are counted here.
     lines.py questions      lines of `stdin`
     lines.py answers        lines of `stdout`
 """
+import re
 import sys
 
 MARK = "¦"
+# Refusals that contain the name at their position, if lines are asked for.
+NAMED = ("Twice", "UnknownName", "Arity", "UnboundVar", "Cyclic", "Irregular", "TooManyConstructors", "FloatInGroup", "MixedRecord")
 LIST = bytes.fromhex("8495a6be00000005000000020000000600000006a041a04240")
 TEXT = bytes.fromhex("8495a6be0000000400000001000000020000000223616263")
 
@@ -16,6 +19,13 @@ def split(marked):
     """The bytes of a text, and how many of them come before the mark."""
     before, after = marked.split(MARK)
     return (before + after).encode(), len(before.encode())
+
+
+def refusal(name, text, position, lines):
+    """What is refused at a position in a text, and the position."""
+    found = re.match(rb"[`']?[A-Za-z_][A-Za-z0-9_']*", text[position:])
+    shown = f"({found[0].decode()})" if lines and name in NAMED else ""
+    return f"{name}{shown} at {whole(text, position, lines)}"
 
 
 def whole(text, position, lines):
@@ -71,13 +81,31 @@ DECLARATIONS = [
     ("Arity", "type 'a t = 'a list\n type u =\n  ¦t"),
     ("BadByte", "¦?\n"),
     ("BadByte", "\n\n\n¦?"),
+    # the name that is refused
+    ("Twice", "type t = [ `A | `B of int\n| ¦`A ]"),
+    ("Twice", "type ('a, ¦'a) t = int"),
+    ("Twice", "type ¦int = string"),
+    ("UnknownName", "type t =\n  ¦a_b'(* c *)list"),
+    ("UnknownName", "type t = ¦_a"),
+    ("UnboundVar", "type 'a t =\n'a * ¦'type * 'b"),
+    ("Arity", "type t = (int, string)¦list"),
+    ("Irregular", "type 'a t = N | C of\n'a list ¦t"),
+    ("TooManyConstructors", "type t =" + "".join(f" | C{n} of int" for n in range(244)) + "\n| ¦Last'1 of int"),
+    ("FloatInGroup", "type\n¦r = { x : f } and f = float"),
+    ("MixedRecord", "type t = int\ntype ¦r = { x : float; y : _ }"),
+    # what an item of a bracket begins with is no name of a refusal
+    ("NotVariant", "type t =\n[ ¦int list | `A ]"),
+    ("NotVariant", "type t =\n[ ¦(int * int) list | `A ]"),
+    ("TagClash", "type u = [ `A of int ]\ntype t = [ u | ¦`A ]"),
+    ("HashClash", "type t =\n[ `azdwbie | ¦`c7diagq ]"),
+    ("TooDeep", "type t =\n" + "(" * 200 + "¦("),
 ]
 
 for name, marked in DECLARATIONS:
     text, position = split(marked)
     both(lambda lines: ask(
         "file=" + text.hex(), b"", "none", words_of(["check"], lines, "f.ml", "int"), [],
-        f"types: {name} at {whole(text, position, lines)}", 3))
+        f"types: {refusal(name, text, position, lines)}", 3))
 
 # the other commands with FILE
 TWICE, AT = split(DECLARATIONS[0][1])
@@ -85,7 +113,7 @@ for command, more in ((["show"], []), (["get"], ["."]), (["trees"], []), (["buil
                       (["verify"], ["script"]), (["edit"], ["script"])):
     both(lambda lines: ask(
         "file=" + TWICE.hex(), b"", "none", words_of(command, lines, "f.ml", "t", more), [],
-        f"types: Twice at {whole(TWICE, AT, lines)}", 3))
+        f"types: {refusal('Twice', TWICE, AT, lines)}", 3))
 
 # ---- TYPE
 
@@ -96,13 +124,17 @@ TYPES = [
     ("BadByte", "(* a\n b *)\n int ¦?"),
     ("UnknownName", "int\n* ¦u"),
     ("OpenComment", "int\n ¦(*"),
+    ("UnknownName", "(* foo *) ¦foo"),
+    ("Arity", "int\n¦int"),
+    ("Twice", "[ `A\n| ¦`A of int ]"),
+    ("NotVariant", "[ ¦int | `A ]"),
 ]
 
 for name, marked in TYPES:
     text, position = split(marked)
     both(lambda lines: ask(
         "word=" + text.hex(), b"", "=", ["check"] + (["--lines"] if lines else []) + ["f.ml"], [],
-        f"type: {name} at {whole(text, position, lines)}", 3))
+        f"type: {refusal(name, text, position, lines)}", 3))
 
 # ---- SCRIPT
 

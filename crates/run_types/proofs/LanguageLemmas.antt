@@ -26,7 +26,6 @@ use Rattle.marshal_spec.proofs.canonical.SameTree.{one_tree_only}
 use Rattle.edit_values.specs.EditedValues.{Edited}
 use Rattle.edit_values.specs.Grafts.{Other}
 use Rattle.edit_values.specs.Laws.{EditsHaveOneAnswer}
-use Rattle.base_data.specs.lines.Lines.{position_in}
 use Rattle.marshal_spec.specs.format.Compat.{too_large_for_32}
 use Rattle.text_path.specs.declared.path_fault.PathFault.{PathFault}
 use Rattle.trees.specs.search_trees.Laws.{TreeVerdictsAreOne}
@@ -52,12 +51,12 @@ module _ {Tree : Type 0} (Is : List ℕ → DeclarationAnswer Tree → Type 0) (
   trees_once : (tree other : Tree) → Is text (accepted tree) → Is text (accepted other) → tree ≡ other
   trees_once tree other one two = accepted_once tree other (once text (accepted tree) (accepted other) one two)
 
-  module _ (known : ℕ → List ℕ) where
-    never_refused : (tree : Tree) (refusal : List ℕ) → Is text (accepted tree) → IsRefusal known (Is text) refusal → ⊥
+  module _ (lines : Bool) where
+    never_refused : (tree : Tree) (refusal : List ℕ) → Is text (accepted tree) → IsRefusal lines text (Is text) refusal → ⊥
     never_refused tree refusal one r = r.refuses tree (once text r.answer (accepted tree) r.is one)
 
-    refusals_once : (refusal other : List ℕ) → IsRefusal known (Is text) refusal → IsRefusal known (Is text) other → refusal ≡ other
-    refusals_once refusal other r s = r.encoded ∙ (ap (answer_text known) (once text r.answer s.answer r.is s.is) ∙ sym s.encoded)
+    refusals_once : (refusal other : List ℕ) → IsRefusal lines text (Is text) refusal → IsRefusal lines text (Is text) other → refusal ≡ other
+    refusals_once refusal other r s = r.encoded ∙ (ap (answer_text lines text) (once text r.answer s.answer r.is s.is) ∙ sym s.encoded)
 
 -- ---- paths
 
@@ -141,16 +140,16 @@ module _ (files_once : HasOneAnswer IsFileAnswer) (types_once : (decls : List De
 
   type_or_refusal : (decls : List Decl) (asked : AskedType) (t : TypeOver) (refusal : List ℕ) → IsAccepted decls asked t → ReadsType decls asked (Err refusal) → ⊥
   type_or_refusal decls asked t refusal a (inl r) =
-      never_refused (IsTypeAnswer decls) (types_once decls) asked.text (position_in asked.lines asked.text) a.written.tree refusal a.written.answer r
+      never_refused (IsTypeAnswer decls) (types_once decls) asked.text asked.lines a.written.tree refusal a.written.answer r
   type_or_refusal decls asked t refusal a (inr much) = never_too_much decls asked refusal t a much
 
   type_refusals : (decls : List Decl) (asked : AskedType) (refusal other : List ℕ) → ReadsType decls asked (Err refusal) → ReadsType decls asked (Err other) → refusal ≡ other
   type_refusals decls asked refusal other (inl r) (inl s) =
-      refusals_once (IsTypeAnswer decls) (types_once decls) asked.text (position_in asked.lines asked.text) refusal other r s
+      refusals_once (IsTypeAnswer decls) (types_once decls) asked.text asked.lines refusal other r s
   type_refusals decls asked refusal other (inl r) (inr s) =
-      absurd (never_refused (IsTypeAnswer decls) (types_once decls) asked.text (position_in asked.lines asked.text) s.written.tree refusal s.written.answer r)
+      absurd (never_refused (IsTypeAnswer decls) (types_once decls) asked.text asked.lines s.written.tree refusal s.written.answer r)
   type_refusals decls asked refusal other (inr r) (inl s) =
-      absurd (never_refused (IsTypeAnswer decls) (types_once decls) asked.text (position_in asked.lines asked.text) r.written.tree other r.written.answer s)
+      absurd (never_refused (IsTypeAnswer decls) (types_once decls) asked.text asked.lines r.written.tree other r.written.answer s)
   type_refusals decls asked refusal other (inr r) (inr s) = r.encoded ∙ sym s.encoded
 
   -- A value has the type or a fault, and not both.
@@ -206,9 +205,9 @@ module _ (files_once : HasOneAnswer IsFileAnswer) (types_once : (decls : List De
 
   pub declared_lawful : TreeVerdictsAreOne → IsLawful declared_types
   declared_lawful verdicts_once = record {
-    declarations_once = λ lined text d refusal is refused. never_refused IsFileAnswer files_once text (position_in lined text) is.tree refusal is.answer refused;
+    declarations_once = λ lined text d refusal is refused. never_refused IsFileAnswer files_once text lined is.tree refusal is.answer refused;
     same_declarations = λ lined. same_decls;
-    same_refusal = λ lined text refusal other. refusals_once IsFileAnswer files_once text (position_in lined text) refusal other;
+    same_refusal = λ lined text refusal other. refusals_once IsFileAnswer files_once text lined refusal other;
     type_once = λ d asked t refusal is refused. type_or_refusal d asked t refusal is refused;
     same_type = λ d asked t u one other.
         let types = same_types d asked.text t.type u.type one.written other.written in

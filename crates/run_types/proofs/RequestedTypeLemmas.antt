@@ -15,7 +15,7 @@ use Rattle.types_wellformed.specs.declarations.DeclarationAnswer.{DeclarationAns
 use Rattle.types_wellformed.specs.declarations.DeclarationFault.{known, IsRefused}
 use Rattle.types_wellformed.specs.declarations.Read.{IsTypeOf}
 use Rattle.types_wellformed.specs.declarations.DeclarationFaultText.{answer_text, lexer_text, placed_text, IsTextOf}
-use Rattle.base_data.specs.lines.Lines.{position_in, position_on}
+use Rattle.base_data.specs.lines.Lines.{position_on}
 use Rattle.cli_spec.specs.Outcome.{at_end, Taken, Found, AskedType, opened, missing, failed, fault_of}
 use Rattle.cli_spec.specs.declared.exit.Exit.{Exit}
 use Rattle.cli_spec.specs.declared.exit.Exit.TheVariants.{CannotOpen as cannot_open, Declarations as declarations, RequestedType as requested_type, Script as script_line, Memory as out_of_memory}
@@ -49,15 +49,16 @@ known_refuses (faults.NotVariant position) tree e = cc e
 known_refuses (faults.TagClash position) tree e = cc e
 known_refuses (faults.HashClash position one two) tree e = cc e
 known_refuses (faults.FloatInGroup position) tree e = cc e
+known_refuses (faults.MixedRecord position) tree e = cc e
 known_refuses faults.Memory tree e = cc e
 
 -- If the exit reason reports the text of the fault, then it is an exit reason for the fault.
-module _ {Tree : Type 0} (lines : Bool) (text : List ℕ) (positions : ℕ → List ℕ) (same : positions ≡ position_in lines text) (refusal : List ℕ) (exit : Exit) (refused : List ℕ → Exit)
+module _ {Tree : Type 0} (lines : Bool) (text refusal : List ℕ) (exit : Exit) (refused : List ℕ → Exit)
     (is : exit ≡ refused refusal) where
-  pub refusal_known : (found : Option (DeclarationAnswer Tree)) → IsTextOf positions found refusal
-      → MatchOption found (exit ≡ out_of_memory) (λ answer. IsOrMemory (refused (answer_text (position_in lines text) answer)) exit)
+  pub refusal_known : (found : Option (DeclarationAnswer Tree)) → IsTextOf lines text found refusal
+      → MatchOption found (exit ≡ out_of_memory) (λ answer. IsOrMemory (refused (answer_text lines text answer)) exit)
   refusal_known None none = absurd none
-  refusal_known (Some answer) encoded = inl (is ∙ ap refused (encoded ∙ ap (λ known. answer_text known answer) same))
+  refusal_known (Some answer) encoded = inl (is ∙ ap refused encoded)
 
 -- If memory ran out, then `out_of_memory` is an exit reason for each fault.
 pub memory_known : {X : Type 0} (found : Option X) (known : X → Exit) → MatchOption found (out_of_memory ≡ out_of_memory) (λ x. IsOrMemory (known x) out_of_memory)
@@ -67,24 +68,24 @@ memory_known (Some x) known = inr refl
 -- ---- exit reasons
 
 -- The exit reason for a fault reports the refusal, or that memory ran out.
-exits_by : {Tree : Type 0} (positions : ℕ → List ℕ) (fault : DeclFault) (Is : DeclarationAnswer Tree → Type 0) (reports : List ℕ → Exit) (exit : Exit) → IsRefused Is fault
-    → MatchOption (known {Tree = Tree} fault) (exit ≡ out_of_memory) (λ answer. IsOrMemory (reports (answer_text positions answer)) exit) → ExitsBy (IsRefusal positions Is) reports exit
-exits_by {Tree} positions fault Is reports exit refused is = at (known fault) refl refused is where
+exits_by : {Tree : Type 0} (lines : Bool) (text : List ℕ) (fault : DeclFault) (Is : DeclarationAnswer Tree → Type 0) (reports : List ℕ → Exit) (exit : Exit) → IsRefused Is fault
+    → MatchOption (known {Tree = Tree} fault) (exit ≡ out_of_memory) (λ answer. IsOrMemory (reports (answer_text lines text answer)) exit) → ExitsBy (IsRefusal lines text Is) reports exit
+exits_by {Tree} lines text fault Is reports exit refused is = at (known fault) refl refused is where
   at : (found : Option (DeclarationAnswer Tree)) → known fault ≡ found → MatchOption found (Unit {0}) Is
-      → MatchOption found (exit ≡ out_of_memory) (λ answer. IsOrMemory (reports (answer_text positions answer)) exit) → ExitsBy (IsRefusal positions Is) reports exit
+      → MatchOption found (exit ≡ out_of_memory) (λ answer. IsOrMemory (reports (answer_text lines text answer)) exit) → ExitsBy (IsRefusal lines text Is) reports exit
   at None e refused is = inr is
   at (Some answer) e refused (inr memory) = inr memory
   at (Some answer) e refused (inl is) =
-      inl (answer_text positions answer, record { answer = answer; is = refused; refuses = λ tree same. known_refuses fault tree (e ∙ ap Some same); encoded = refl }, is)
+      inl (answer_text lines text answer, record { answer = answer; is = refused; refuses = λ tree same. known_refuses fault tree (e ∙ ap Some same); encoded = refl }, is)
 
 pub declarations_refused : (lines : Bool) (text : List ℕ) (fault : DeclFault) (exit : Exit) → IsRefused (IsFileAnswer text) fault → IsDeclarationsExit lines text fault exit
     → GivesDeclarations lines text (Err exit)
-declarations_refused lines text fault exit refused is = exits_by (position_in lines text) fault (IsFileAnswer text) declarations exit refused is
+declarations_refused lines text fault exit refused is = exits_by lines text fault (IsFileAnswer text) declarations exit refused is
 
 pub type_refused : (decls : List Decl) (asked : AskedType) (fault : DeclFault) (exit : Exit) → IsRefused (IsTypeAnswer decls asked.text) fault
     → IsTypeExit asked.lines asked.text fault exit → GivesRequested decls asked (Err exit)
-type_refused decls asked fault exit refused is = at (exits_by (position_in asked.lines asked.text) fault (IsTypeAnswer decls asked.text) requested_type exit refused is) where
-  at : ExitsBy (IsRefusal (position_in asked.lines asked.text) (IsTypeAnswer decls asked.text)) requested_type exit → GivesRequested decls asked (Err exit)
+type_refused decls asked fault exit refused is = at (exits_by asked.lines asked.text fault (IsTypeAnswer decls asked.text) requested_type exit refused is) where
+  at : ExitsBy (IsRefusal asked.lines asked.text (IsTypeAnswer decls asked.text)) requested_type exit → GivesRequested decls asked (Err exit)
   at (inl (refusal, is, same)) = inl (refusal, inl is, same)
   at (inr memory) = inr memory
 

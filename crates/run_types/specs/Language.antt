@@ -30,7 +30,7 @@ use Rattle.edit_values.specs.EditedLines.{AreEdited}
 use Rattle.edit_values.specs.EditedValues.{Edited}
 use Rattle.edit_values.specs.Grafts.{Other}
 use Rattle.edit_values.specs.Reasons.{reason_text}
-use Rattle.base_data.specs.lines.Lines.{position_in, position_on}
+use Rattle.base_data.specs.lines.Lines.{position_on}
 use Rattle.text_path.specs.ParserAnswer.{IsAnswer}
 use Rattle.text_path.specs.declared.path_fault.PathFault.{PathFault}
 use Rattle.text_path.specs.declared.path_fault.PathFault.TheVariants as path_faults
@@ -189,19 +189,19 @@ AreBytesIn t script compat earlier tree answer =
 
 -- ---- parsing
 
--- The refusal is the text of a parse result that accepts nothing. `known` renders positions.
-pub record IsRefusal {T : Type 0} (known : ℕ → List ℕ) (Is : DeclarationAnswer T → Type 0)
+-- The refusal is the text of a parse result of `text` that accepts nothing.
+pub record IsRefusal {T : Type 0} (lines : Bool) (text : List ℕ) (Is : DeclarationAnswer T → Type 0)
     (refusal : List ℕ)
     : Type 0 where
   pub answer : DeclarationAnswer T
   pub is : Is answer
   pub refuses : (tree : T) → answer ≢ accepted tree
-  pub encoded : refusal ≡ answer_text known answer
+  pub encoded : refusal ≡ answer_text lines text answer
 
 abbrev pub ReadsDeclarations : (lines : Bool) → List ℕ → Result (List Decl) (List ℕ) → Type 0
 ReadsDeclarations lines text (Ok decls) = IsDeclared text decls
 ReadsDeclarations lines text (Err refusal) =
-    IsRefusal (position_in lines text) (IsFileAnswer text) refusal
+    IsRefusal lines text (IsFileAnswer text) refusal
 
 -- The type reaches these types, at most 65,536.
 pub record ReachesWithinTable (decls : List Decl) (t : Ty) : Type 0 where
@@ -228,7 +228,7 @@ pub record IsAccepted (decls : List Decl) (asked : AskedType) (t : TypeOver) : T
 abbrev pub ReadsType : List Decl → AskedType → Result TypeOver (List ℕ) → Type 0
 ReadsType decls asked (Ok t) = IsAccepted decls asked t
 ReadsType decls asked (Err refusal) =
-    IsRefusal (position_in asked.lines asked.text) (IsTypeAnswer decls asked.text) refusal
+    IsRefusal asked.lines asked.text (IsTypeAnswer decls asked.text) refusal
     ⊎ IsTooMuch decls asked.text refusal
 
 -- The text denotes this path, or is no path.

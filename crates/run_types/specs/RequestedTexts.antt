@@ -7,7 +7,6 @@ use Rattle.types_parse.specs.grammar.Grammar.{FileTree, Texpr}
 use Rattle.types_wellformed.specs.declared.declarations.declaration_fault.DeclFault.{DeclFault}
 use Rattle.types_wellformed.specs.declarations.DeclarationFault.{known}
 use Rattle.types_wellformed.specs.declarations.DeclarationFaultText.{answer_text}
-use Rattle.base_data.specs.lines.Lines.{position_in}
 use Rattle.cli_spec.specs.Outcome.{Found, AskedType, ReadsTypeOf, ReadsScriptOf}
 use Rattle.cli_spec.specs.declared.exit.Exit.{Exit}
 use Rattle.cli_spec.specs.declared.exit.Exit.TheVariants.{BadPath as bad_path}
@@ -49,12 +48,12 @@ ExitsBy Refuses known exit =
 abbrev pub IsDeclarationsExit : (lines : Bool) → List ℕ → DeclFault → Exit → Type 0
 IsDeclarationsExit lines text fault exit =
     MatchOption (known {Tree = FileTree} fault) (exit ≡ out_of_memory)
-    (λ answer. IsOrMemory (declarations (answer_text (position_in lines text) answer)) exit)
+    (λ answer. IsOrMemory (declarations (answer_text lines text answer)) exit)
 
 abbrev pub IsTypeExit : (lines : Bool) → List ℕ → DeclFault → Exit → Type 0
 IsTypeExit lines text fault exit =
     MatchOption (known {Tree = Texpr} fault) (exit ≡ out_of_memory)
-    (λ answer. IsOrMemory (requested_type (answer_text (position_in lines text) answer)) exit)
+    (λ answer. IsOrMemory (requested_type (answer_text lines text answer)) exit)
 
 -- The exit reason for a fault in PATH: that memory ran out, or that the text is no path.
 abbrev pub IsPathExit : PathFault → Exit → Type 0

@@ -40,7 +40,7 @@ use types_wellformed::declarations::{
 fn declarations_exit(alloc: Global, lines: bool, text: &[u8], fault: &DeclFault) -> Exit
     ensures { IsDeclarationsExit lines text.now fault.now result }
 {
-    match fault_text(alloc, &PositionStyle::of_text(lines, text), fault) {
+    match fault_text(alloc, lines, text, fault) {
         Ok(refusal) => Exit::Declarations(refusal),
         Err(_) => Exit::Memory,
     }
@@ -50,7 +50,7 @@ fn declarations_exit(alloc: Global, lines: bool, text: &[u8], fault: &DeclFault)
 fn type_exit(alloc: Global, lines: bool, text: &[u8], fault: &DeclFault) -> Exit
     ensures { IsTypeExit lines text.now fault.now result }
 {
-    match fault_text(alloc, &PositionStyle::of_text(lines, text), fault) {
+    match fault_text(alloc, lines, text, fault) {
         Ok(refusal) => Exit::RequestedType(refusal),
         Err(_) => Exit::Memory,
     }

@@ -1,13 +1,12 @@
 //! Prints the answers to texts of declarations, and to texts of types over them.
 
-use base_data::lines::PositionStyle;
 use std::io;
 use std::io::ErrorKind;
 use types_wellformed::declarations::{DeclFault, fault_text, read_decls, read_type};
 
 // Prints a fault, after the name of the text in which it was found.
 fn write_fault(rt: &HostRuntime, found_in: &str, fault: &DeclFault) -> io::Result<()> {
-    let Ok(text) = fault_text(rt.alloc(), &PositionStyle::Bytes, fault) else {
+    let Ok(text) = fault_text(rt.alloc(), false, &[], fault) else {
         return Err(ErrorKind::OutOfMemory.into());
     };
     print!(rt; "{found_in}: ")?;

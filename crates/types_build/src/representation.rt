@@ -24,7 +24,9 @@ mod type_heads;
 pub use bracket::bracket_head;
 pub use calls::{expand, flat_float, shape};
 pub use found_heads::FoundHeads;
-pub use head_kind::{is_float, is_polymorphic_variant};
+pub use head_kind::{
+    expanded_base, is_float, is_float_base, is_polymorphic_variant, is_wildcard_base,
+};
 pub use known_abbreviations::{KnownAbbreviations, none_known};
 pub use plain_heads::plain as plain_head;
 pub use remembered_heads::{Heads, item_head, no_heads};

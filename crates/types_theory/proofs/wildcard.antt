@@ -1,3 +1,4 @@
 pub mod WildcardWeakerLemmas
 pub mod WildcardHeadLemmas
 pub mod WildcardShapeLemmas
+pub mod MixedLemmas

@@ -6,3 +6,4 @@ pub mod OutsideLemmas
 pub mod DepthLemmas
 pub mod DeclarationFileLemmas
 pub mod DeclarationSoundLemmas
+pub mod NameTextLemmas

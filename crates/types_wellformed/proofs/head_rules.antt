@@ -6,5 +6,6 @@ pub mod HeadRuleTagLemmas
 pub mod JoinedLemmas
 pub mod ThroughLemmas
 pub mod HeadRuleFlatLemmas
+pub mod HeadRuleDeclaredLemmas
 pub mod HeadRuleTextLemmas
 pub mod HeadRuleApartLemmas

@@ -12,13 +12,13 @@ use Rattle.types_spec.specs.types.Ty.{Ty, variable, named, tuple, bracket, part,
 use Rattle.types_spec.specs.types.Declarations.{predeclared}
 use Rattle.types_spec.specs.types.TypeNodes.{type_at}
 use Rattle.types_spec.specs.types.Head.{head, plain_head, with_part, with_tags, head_meant}
-use Rattle.types_spec.specs.types.Shape.{is_float_head, is_float}
+use Rattle.types_spec.specs.types.Shape.{is_float_head}
 use Rattle.types_spec.specs.types.WellFormed.{AreSound, AreVariants}
 use Rattle.types_theory.proofs.equality.EqualityNeedLemmas.{head_plain}
 use Rattle.types_theory.proofs.equality.RankedLemmas.{are_ranked}
 use Rattle.types_build.specs.representation.Unfolded.{HasHeadOf}
 use Rattle.types_build.specs.representation.Tags.{has_bracket}
-use Rattle.types_build.specs.representation.Kind.{is_float_base, is_float_name}
+use Rattle.types_build.specs.representation.Kind.{base_of_head, base_of, is_float_base}
 use Rattle.types_build.proofs.representation.RepresentationBracketLemmas.{plain_head-bracket, takes_no_tags}
 
 -- ---- polymorphic variants
@@ -33,65 +33,62 @@ module _ (head : Ty → HeadOf Ty) where
   variants_there t false is =
       (λ never. absurd (false≢true never), λ are. absurd (none_there (plain_head head t) (takes_no_tags head t [] is) are))
 
-  -- ---- floats
+  -- ---- predeclared types
 
-  no_float_part : (h : HeadOf Ty) (a : Ty) → is_float_head (with_part h a) ≡ is_float_head h
-  no_float_part (heads.Variable x) a = refl
-  no_float_part (heads.Predeclared b ts) a = by b where
-    by : (base : Predeclared) → is_float_head (with_part (heads.Predeclared base ts) a) ≡ is_float_head (heads.Predeclared base ts)
-    by bases.Float = refl
-    by bases.Int = refl
-    by bases.Char = refl
-    by bases.Bool = refl
-    by bases.Unit = refl
-    by bases.String = refl
-    by bases.Bytes = refl
-    by bases.Int32 = refl
-    by bases.Int64 = refl
-    by bases.Nativeint = refl
-    by bases.Floatarray = refl
-    by bases.Array = refl
-    by bases.Any = refl
-    by (bases.Sum k) = refl
-  no_float_part (heads.Datatype n ts) a = refl
-  no_float_part (heads.Tuple ts) a = refl
-  no_float_part (heads.Variants tags) a = refl
-  no_float_part heads.Absent a = refl
+  base_part : (h : HeadOf Ty) (a : Ty) → base_of_head (with_part h a) ≡ base_of_head h
+  base_part (heads.Variable x) a = refl
+  base_part (heads.Predeclared b ts) a = refl
+  base_part (heads.Datatype n ts) a = refl
+  base_part (heads.Tuple ts) a = refl
+  base_part (heads.Variants tags) a = refl
+  base_part heads.Absent a = refl
 
-  no_float_tags : (h : HeadOf Ty) (more : List (TagOf Ty)) → is_float_head (with_tags h more) ≡ false
-  no_float_tags (heads.Variants tags) more = refl
-  no_float_tags h more = refl
+  base_tags : (h : HeadOf Ty) (more : List (TagOf Ty)) → base_of_head (with_tags h more) ≡ None
+  base_tags (heads.Variants tags) more = refl
+  base_tags h more = refl
 
-  float_meant : (base : Option Predeclared) (name : List ℕ) → is_float_head (head_meant base name) ≡ is_float_base base
-  float_meant None name = refl
-  float_meant (Some bases.Float) name = refl
-  float_meant (Some bases.Int) name = refl
-  float_meant (Some bases.Char) name = refl
-  float_meant (Some bases.Bool) name = refl
-  float_meant (Some bases.Unit) name = refl
-  float_meant (Some bases.String) name = refl
-  float_meant (Some bases.Bytes) name = refl
-  float_meant (Some bases.Int32) name = refl
-  float_meant (Some bases.Int64) name = refl
-  float_meant (Some bases.Nativeint) name = refl
-  float_meant (Some bases.Floatarray) name = refl
-  float_meant (Some bases.Array) name = refl
-  float_meant (Some bases.Any) name = refl
-  float_meant (Some (bases.Sum k)) name = refl
+  base_meant : (base : Option Predeclared) (name : List ℕ) → base_of_head (head_meant base name) ≡ base
+  base_meant None name = refl
+  base_meant (Some base) name = refl
 
-  abbrev float_by : Option (List ℕ) → Bool
-  float_by (Some name) = is_float_name name
-  float_by None = false
+  abbrev base_by : Option (List ℕ) → Option Predeclared
+  base_by (Some name) = predeclared name
+  base_by None = None
 
-  float_there : (t : Ty) → is_float_head (plain_head head t) ≡ float_by (name_of t)
-  float_there (variable x) = refl
-  float_there (named n) = float_meant (predeclared n) n
-  float_there tuple = refl
-  float_there bracket = refl
-  float_there (part t a) = no_float_part (plain_head head t) a ∙ float_there t
-  float_there (tag t x) = no_float_tags (plain_head head t) _
-  float_there (tag_of t x a) = no_float_tags (plain_head head t) _
-  float_there (including t a) = no_float_tags (plain_head head t) _
+  base_there : (t : Ty) → base_of_head (plain_head head t) ≡ base_by (name_of t)
+  base_there (variable x) = refl
+  base_there (named n) = base_meant (predeclared n) n
+  base_there tuple = refl
+  base_there bracket = refl
+  base_there (part t a) = base_part (plain_head head t) a ∙ base_there t
+  base_there (tag t x) = base_tags (plain_head head t) _
+  base_there (tag_of t x a) = base_tags (plain_head head t) _
+  base_there (including t a) = base_tags (plain_head head t) _
+
+-- ---- the kind of a head, by the predeclared type
+
+pub float_by_base : (h : HeadOf Ty) → is_float_base (base_of_head h) ≡ is_float_head h
+float_by_base (heads.Predeclared base ts) = by base where
+  by : (base : Predeclared) → is_float_base (Some base) ≡ is_float_head (heads.Predeclared base ts)
+  by bases.Float = refl
+  by bases.Int = refl
+  by bases.Char = refl
+  by bases.Bool = refl
+  by bases.Unit = refl
+  by bases.String = refl
+  by bases.Bytes = refl
+  by bases.Int32 = refl
+  by bases.Int64 = refl
+  by bases.Nativeint = refl
+  by bases.Floatarray = refl
+  by bases.Array = refl
+  by bases.Any = refl
+  by (bases.Sum k) = refl
+float_by_base (heads.Variable x) = refl
+float_by_base (heads.Datatype n ts) = refl
+float_by_base (heads.Tuple ts) = refl
+float_by_base (heads.Variants tags) = refl
+float_by_base heads.Absent = refl
 
 -- ---- over declarations
 
@@ -103,10 +100,11 @@ module _ (decls : List Decl) (sound : AreSound decls) (types : List Ty) (t : Ty)
   are_variants test is =
       subst (λ h. IsTrue test ↔ AreVariants h) written (variants_there (head decls) (type_at types number) test (sym is))
 
-  pub is_float_by_name : (name : List ℕ) → name_of (type_at types number) ≡ Some name → is_float_name name ≡ is_float decls t
-  is_float_by_name name is =
-      sym (ap is_float_head (sym written) ∙ float_there (head decls) (type_at types number) ∙ ap (float_by (head decls)) is)
+  base_is : base_of decls t ≡ base_by (head decls) (name_of (type_at types number))
+  base_is = ap base_of_head (sym written) ∙ base_there (head decls) (type_at types number)
 
-  pub is_float_no_name : name_of (type_at types number) ≡ None → false ≡ is_float decls t
-  is_float_no_name is =
-      sym (ap is_float_head (sym written) ∙ float_there (head decls) (type_at types number) ∙ ap (float_by (head decls)) is)
+  pub base_by_name : (name : List ℕ) → name_of (type_at types number) ≡ Some name → predeclared name ≡ base_of decls t
+  base_by_name name is = sym (base_is ∙ ap (base_by (head decls)) is)
+
+  pub base_no_name : name_of (type_at types number) ≡ None → None ≡ base_of decls t
+  base_no_name is = sym (base_is ∙ ap (base_by (head decls)) is)

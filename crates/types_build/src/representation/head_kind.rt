@@ -6,7 +6,7 @@ ghost use Rattle.types_spec.specs.types.Head.{head};
 ghost use Rattle.types_spec.specs.types.Shape.{is_float};
 ghost use Rattle.types_spec.specs.types.WellFormed.{AreVariants};
 ghost use Rattle.types_table.specs.store.Held.{Grows};
-ghost use Rattle.types_build.specs.representation.Kind.{is_float_name};
+ghost use Rattle.types_build.specs.representation.Kind.{base_of, is_float_base, is_wildcard_base};
 
 use crate::representation::bracket::has_bracket;
 use crate::representation::replaced::expanded;
@@ -38,6 +38,47 @@ pub fn is_polymorphic_variant(
     Ok(has_bracket(&Stored { types, number: at }))
 }
 
+/// Returns the predeclared type to which a type expands, without its arguments. Returns `None` if
+/// the type does not expand to a predeclared type. May append types to `types`, even if the result
+/// is `Memory`.
+pub fn expanded_base(
+    alloc: Global,
+    types: &mut TypeStore,
+    decls: &SoundEnvironment<'_>,
+    t: &Ty,
+) -> Result<Option<Predeclared>, Memory>
+    ensures ok { IfOk result (λ base. base ≡ base_of decls.now t.now) }
+    ensures grown { Grows types.old types.new }
+{
+    decls.holds();
+    let number = types.add(alloc, t)?;
+    let at = expanded(alloc, types, decls, number)?;
+    match name(&Stored { types, number: at }) {
+        Some(name) => Ok(predeclared(name)),
+        None => Ok(None),
+    }
+}
+
+/// Returns true if the predeclared type is `float`.
+pub fn is_float_base(base: Option<Predeclared>) -> bool
+    ensures { result ≡ is_float_base base }
+{
+    match base {
+        Some(Predeclared::Float) => true,
+        _ => false,
+    }
+}
+
+/// Returns true if the predeclared type is `_`.
+pub fn is_wildcard_base(base: Option<Predeclared>) -> bool
+    ensures { result ≡ is_wildcard_base base }
+{
+    match base {
+        Some(Predeclared::Any) => true,
+        _ => false,
+    }
+}
+
 /// Returns true if a type expands to `float`. May append types to `types`, even if the result is
 /// `Memory`.
 pub fn is_float(
@@ -49,21 +90,6 @@ pub fn is_float(
     ensures ok { IfOk result (λ is. is ≡ is_float decls.now t.now) }
     ensures grown { Grows types.old types.new }
 {
-    decls.holds();
-    let number = types.add(alloc, t)?;
-    let at = expanded(alloc, types, decls, number)?;
-    match name(&Stored { types, number: at }) {
-        Some(name) => Ok(is_float_name(name)),
-        None => Ok(false),
-    }
-}
-
-/// Returns true if the name is predeclared as the name of `float`.
-fn is_float_name(name: &[u8]) -> bool
-    ensures { result ≡ is_float_name name.now }
-{
-    match predeclared(name) {
-        Some(Predeclared::Float) => true,
-        _ => false,
-    }
+    let base = expanded_base(alloc, types, decls, t)?;
+    Ok(is_float_base(base))
 }

@@ -22,7 +22,8 @@ rule_of_turn (suc (suc (suc (suc (suc (suc zero)))))) = scope.too_many_construct
 rule_of_turn (suc (suc (suc (suc (suc (suc (suc zero))))))) = scope.not_variant
 rule_of_turn (suc (suc (suc (suc (suc (suc (suc (suc zero)))))))) = scope.tag_clash
 rule_of_turn (suc (suc (suc (suc (suc (suc (suc (suc (suc zero))))))))) = scope.hash_clash
-rule_of_turn n = scope.float_in_group
+rule_of_turn (suc (suc (suc (suc (suc (suc (suc (suc (suc (suc zero)))))))))) = scope.float_in_group
+rule_of_turn n = scope.mixed_record
 
 turn_back : (rule : Rule) → rule_of_turn (turn rule) ≡ rule
 unfolding rule_of_turn
@@ -37,6 +38,7 @@ turn_back scope.not_variant = refl
 turn_back scope.tag_clash = refl
 turn_back scope.hash_clash = refl
 turn_back scope.float_in_group = refl
+turn_back scope.mixed_record = refl
 
 pub same_turn : (rule other : Rule) → turn rule ≡ turn other → rule ≡ other
 same_turn rule other e = sym (turn_back rule) ∙ ap rule_of_turn e ∙ turn_back other

@@ -21,7 +21,7 @@ use Rattle.types_spec.specs.types.Occurrence.{DeclPositions}
 use Rattle.types_spec.specs.types.Scope.{unknown_name, cyclic, irregular, not_variant, tag_clash}
 use Rattle.types_spec.specs.types.Scope.{hash_clash}
 use Rattle.types_spec.specs.types.Scope.{float_in_group, IsStep, IsThrough, HasTags, BreaksInFile}
-use Rattle.types_spec.specs.types.Scope.{BreaksInType}
+use Rattle.types_spec.specs.types.Scope.{BreaksInType, is_mixed_body, mixed_record}
 use Rattle.base_data.proofs.model.Options.{Contains-first, Contains-later, Contains-none, Contains-cases}
 
 abbrev declares : List ℕ → List (List ℕ) → Body → ℕ → Decl
@@ -174,6 +174,27 @@ is_float_in_group =
       Contains-first r_positions (f_positions ∷ []),
       (refl, (all_expand, x, Contains-first x [], through)),
     )
+
+-- ---- `type r = {x: float; y: _}`
+
+abbrev mixed_body : Body
+mixed_body =
+    bodies.Record (record { name = codes "x"; mutable = false; ty = named (codes "float") }
+    ∷ record { name = codes "y"; mutable = false; ty = named (codes "_") } ∷ [])
+
+abbrev mixed : DeclPositions
+mixed = record (positions (declares (codes "r") [] mixed_body 0) 1 []
+    (use_of 6 (codes "float") [] false ∷ use_of 10 (codes "_") [] false ∷ [])) {
+      records = ((4, codes "x") ∷ (8, codes "y") ∷ []) ∷ [];
+    }
+
+has_both : is_mixed_body (mixed.decl ∷ []) mixed_body ≡ true
+unfolding head predeclared
+has_both = refl
+
+-- The rule `mixed_record` is broken at the record's name.
+is_mixed_record : BreaksInFile (mixed ∷ []) mixed_record 1
+is_mixed_record = inr (mixed, Contains-first mixed [], (refl, has_both))
 
 -- ---- TYPE foo
 

@@ -1,9 +1,10 @@
 -- The scope rules: what breaks each rule and at which lexeme, and which violation is reported (the
 -- OCaml manual, "Type definitions"). The order and the positions are this project's own.
-use Rattle.std.specs.Prelude.{ℕ, ◌<◌, ◌≤◌, ◌≡◌, ◌≢◌, ◌⊎◌, Bool, true, false, List, [], ◌∷◌, length}
+use Rattle.std.specs.Prelude.{ℕ, ◌<◌, ◌≤◌, ◌≡◌, ◌≢◌, ◌⊎◌, Bool, true, false, ◌&&◌, ◌||◌}
+use Rattle.std.specs.Prelude.{List, [], ◌∷◌, length}
 use Rattle.std.specs.Prelude.{map}
 use Rattle.std.specs.Prelude.{Option, Some, None, IsSome, slice_get, Contains}
-use Rattle.std.specs.List.{filter_map}
+use Rattle.std.specs.List.{filter_map, list_all, list_any}
 use Rattle.types_spec.specs.tag_hash.TagHash.{tag_hash}
 use Rattle.types_spec.specs.declared.types.decl.Field.{Field}
 use Rattle.types_spec.specs.declared.types.decl.Body.{Body}
@@ -17,7 +18,7 @@ use Rattle.types_spec.specs.types.WellFormed.{IsVariable, AreVariants}
 use Rattle.types_spec.specs.types.Declarations.{predeclared, arity_of, declaration_of, abbreviated}
 use Rattle.types_spec.specs.types.Declarations.{unfolded_times}
 use Rattle.types_spec.specs.types.Head.{tags_in, head}
-use Rattle.types_spec.specs.types.Shape.{is_float}
+use Rattle.types_spec.specs.types.Shape.{is_float, is_wildcard}
 use Rattle.types_spec.specs.types.Occurrence.{Placed, PlacedItem, Occurrence, use_of, variable_at}
 use Rattle.types_spec.specs.types.Occurrence.{bracket_of}
 use Rattle.types_spec.specs.types.Occurrence.{DeclPositions}
@@ -44,6 +45,8 @@ pub data Rule : Type 0 where
   hash_clash : Rule
   -- No record is flat because of an abbreviation of the record's own group.
   float_in_group : Rule
+  -- No record has fields of type `float` and of type `_`, and no other fields.
+  mixed_record : Rule
 
 -- The position of a rule in the order in which the rules are checked.
 abbrev pub turn : Rule → ℕ
@@ -58,6 +61,7 @@ turn not_variant = 7
 turn tag_clash = 8
 turn hash_clash = 9
 turn float_in_group = 10
+turn mixed_record = 11
 
 -- The violation that is reported, with its lexeme: the rule is broken at `k` and at no smaller
 -- lexeme. No rule with an earlier turn is broken anywhere.
@@ -214,6 +218,25 @@ IsFlatThroughGroup decls group (bodies.Record fields) =
     × (f : Field) × Contains fields f × IsThrough decls group f.ty
 IsFlatThroughGroup decls group body = ⊥
 
+-- Each field passes one of two tests, and each test is passed by some field.
+abbrev pub is_mixed_by : (Ty → Bool) → (Ty → Bool) → List Field → Bool
+is_mixed_by one other fields =
+    list_all (λ (field : Field). one field.ty || other field.ty) fields
+    && list_any (λ (field : Field). one field.ty) fields
+    && list_any (λ (field : Field). other field.ty) fields
+
+-- Each field expands to `float` or to `_`, and fields of both types occur. If the type that `_`
+-- hides is `float`, OCaml stores the record as an array of doubles. If the hidden type is another
+-- type, OCaml stores the record as a block.
+abbrev pub is_mixed : List Decl → List Field → Bool
+is_mixed decls fields = is_mixed_by (is_float decls) (is_wildcard decls) fields
+
+-- Tests whether the body of a declaration is a mixed record. An inline record is never mixed,
+-- because an inline record is a block whatever the types of its fields are.
+abbrev pub is_mixed_body : List Decl → Body → Bool
+is_mixed_body decls (bodies.Record fields) = is_mixed decls fields
+is_mixed_body decls body = false
+
 module _ (all : List DeclPositions) where
   -- The name at lexeme `k` is used in its own group with an argument that contains a variable but
   -- is not a variable.
@@ -239,6 +262,8 @@ module _ (all : List DeclPositions) where
   BreaksInDecl d too_many_constructors k = slice_get d.carrying 244 ≡ Some k
   BreaksInDecl d float_in_group k =
       (d.position ≡ k) × IsFlatThroughGroup (decls_of all) d.decl.group d.decl.body
+  BreaksInDecl d mixed_record k =
+      (d.position ≡ k) × (is_mixed_body (decls_of all) d.decl.body ≡ true)
   BreaksInDecl d rule k =
       BreaksIn (decls_of all) (λ group. group ≤ d.decl.group) d.occurrences rule k
 

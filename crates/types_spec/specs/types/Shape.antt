@@ -35,6 +35,14 @@ is_float_head other = false
 abbrev pub is_float : List Decl → Ty → Bool
 is_float decls t = is_float_head (head decls t)
 
+abbrev pub is_wildcard_head : HeadOf Ty → Bool
+is_wildcard_head (heads.Predeclared bases.Any ts) = true
+is_wildcard_head other = false
+
+-- The type expands to `_`.
+abbrev pub is_wildcard : List Decl → Ty → Bool
+is_wildcard decls t = is_wildcard_head (head decls t)
+
 -- A record is flat if the declared type of each field expands to `float`. A field whose declared
 -- type is a parameter makes the record not flat, even if `float` replaces the parameter.
 abbrev pub is_flat : List Decl → List Field → Bool

@@ -1,7 +1,9 @@
 -- Declared types that become wildcards wherever they occur (this project's own).
-use Rattle.std.specs.Prelude.{ℕ, ◌≡◌, Bool, true, false, if◌then◌else◌, List, [], map, Some, None}
+use Rattle.std.specs.Prelude.{ℕ, ◌≡◌, Bool, true, false, ◌||◌, if◌then◌else◌, List, [], map}
+use Rattle.std.specs.Prelude.{Some, None}
 use Rattle.std.specs.Prelude.{codes}
 use Rattle.types_spec.specs.declared.types.decl.Predeclared.TheVariants as bases
+use Rattle.types_spec.specs.declared.types.decl.Field.{Field}
 use Rattle.types_spec.specs.declared.types.decl.Body.{Body}
 use Rattle.types_spec.specs.declared.types.decl.Body.TheVariants as bodies
 use Rattle.types_spec.specs.declared.types.decl.Decl.{Decl}
@@ -11,6 +13,8 @@ use Rattle.types_spec.specs.types.WellFormed.{AreWellFormed}
 use Rattle.types_spec.specs.types.Declarations.{declaration_of, abbreviated}
 use Rattle.types_spec.specs.types.Equal.{declared_shapes}
 use Rattle.types_spec.specs.types.Head.{head}
+use Rattle.types_spec.specs.types.Scope.{is_mixed, is_mixed_by}
+use Rattle.types_spec.specs.types.Shape.{is_float, is_wildcard}
 use Rattle.types_spec.specs.types.Ty.{Ty, named}
 use Rattle.types_theory.specs.wildcard.Weaker.{HasMore}
 
@@ -53,3 +57,21 @@ abbrev pub WildcardIsWeaker : Type 0
 WildcardIsWeaker =
     (decls : List Decl) (hides : List ℕ → Bool) → AreWellFormed decls → HidesDatatypes hides decls
     → HasMore (declared_shapes (hide hides decls)) (declared_shapes decls)
+
+abbrev pub is_hidden_head : (List ℕ → Bool) → HeadOf Ty → Bool
+is_hidden_head hides (heads.Datatype name ts) = hides name
+is_hidden_head hides other = false
+
+-- The type expands to `_` or to a hidden type.
+abbrev pub becomes_wildcard : (List ℕ → Bool) → List Decl → Ty → Bool
+becomes_wildcard hides decls t = is_wildcard decls t || is_hidden_head hides (head decls t)
+
+-- After hiding, a record is mixed exactly if each field expands to `float`, to `_` or to a hidden
+-- type, and at least one field expands to `float`, and at least one field does not. No file may
+-- declare a mixed record. If hiding makes a record mixed, the record must be hidden too.
+abbrev pub HidingMixesRecords : Type 0
+HidingMixesRecords =
+    (decls : List Decl) (hides : List ℕ → Bool) → AreWellFormed decls → HidesDatatypes hides decls
+    → (fields : List Field)
+    → is_mixed (hide hides decls) fields
+    ≡ is_mixed_by (is_float decls) (becomes_wildcard hides decls) fields

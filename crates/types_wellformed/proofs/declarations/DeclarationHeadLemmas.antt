@@ -44,6 +44,8 @@ module _ {Tree : Type 0} (encoded : Tree → Kinds) (ends : Tree → List ℕ) (
   )
   heads_refuse (heads.FloatInGroup k) is =
       (Ok lexemes, lexes, (text_read tree, reads, (k, first_broken (Breaks tree) (Hashes tree) keeps (heads.FloatInGroup k) is, refl)))
+  heads_refuse (heads.MixedRecord k) is =
+      (Ok lexemes, lexes, (text_read tree, reads, (k, first_broken (Breaks tree) (Hashes tree) keeps (heads.MixedRecord k) is, refl)))
 
   pub heads_named :
       (b : HeadBreak) → IsFirstOfHeads (Breaks tree) (Hashes tree) (Some b) → HasNames encoded ends Hashes text (head_at lexemes (length text) b)
@@ -52,6 +54,7 @@ module _ {Tree : Type 0} (encoded : Tree → Kinds) (ends : Tree → List ℕ) (
   heads_named (heads.HashClash k one other) is =
       record { lexemes = lexemes; tree = tree; lexeme = k; lexed = lexes; reads = reads; at = refl; hash = is.3 }
   heads_named (heads.FloatInGroup k) is = tt
+  heads_named (heads.MixedRecord k) is = tt
 
   pub heads_accept : IsFirstOfHeads (Breaks tree) (Hashes tree) None → IsAnswer encoded ends Breaks text (accepted tree)
   heads_accept is = (Ok lexemes, lexes, (text_read tree, reads, (refl, all_kept (Breaks tree) (Hashes tree) keeps is)))

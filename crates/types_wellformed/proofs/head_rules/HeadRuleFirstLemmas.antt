@@ -3,34 +3,36 @@
 use Rattle.std.proofs.Common.{ℕ, ◌<◌, ◌≤◌, ◌≡◌, List, Option, Some, None, refl, sym, subst, arith}
 use Rattle.std.specs.Prelude.{◌↔◌}
 use Rattle.types_spec.specs.types.Scope.{Rule, turn, twice, unknown_name, arity, unbound_variable, cyclic, irregular}
-use Rattle.types_spec.specs.types.Scope.{too_many_constructors, not_variant, tag_clash, hash_clash, float_in_group}
+use Rattle.types_spec.specs.types.Scope.{too_many_constructors, not_variant, tag_clash, hash_clash, float_in_group, mixed_record}
 use Rattle.types_resolve.specs.scope.Least.{IsLeast}
 use Rattle.types_wellformed.specs.declared.head_rules.broken.HeadBreak.{HeadBreak}
 use Rattle.types_wellformed.specs.declared.head_rules.broken.HeadBreak.TheVariants as breaks
 use Rattle.types_wellformed.specs.head_rules.Broken.{rule_of_break, position_of_break, NamesAre, IsFirstOfHeads}
 
--- If a predicate holds for the four rules that depend on heads, then the predicate holds for each
+-- If a predicate holds for the five rules that depend on heads, then the predicate holds for each
 -- rule that depends on heads.
 pub of_late :
-    (P : Rule → Type 0) → P not_variant → P tag_clash → P hash_clash → P float_in_group → (rule : Rule)
+    (P : Rule → Type 0) → P not_variant → P tag_clash → P hash_clash → P float_in_group → P mixed_record → (rule : Rule)
     → 7 ≤ turn rule → P rule
-of_late P variant conflict hash float twice late = absurd (omega arith)
-of_late P variant conflict hash float unknown_name late = absurd (omega arith)
-of_late P variant conflict hash float arity late = absurd (omega arith)
-of_late P variant conflict hash float unbound_variable late = absurd (omega arith)
-of_late P variant conflict hash float cyclic late = absurd (omega arith)
-of_late P variant conflict hash float irregular late = absurd (omega arith)
-of_late P variant conflict hash float too_many_constructors late = absurd (omega arith)
-of_late P variant conflict hash float not_variant late = variant
-of_late P variant conflict hash float tag_clash late = conflict
-of_late P variant conflict hash float hash_clash late = hash
-of_late P variant conflict hash float float_in_group late = float
+of_late P variant conflict hash float mixed twice late = absurd (omega arith)
+of_late P variant conflict hash float mixed unknown_name late = absurd (omega arith)
+of_late P variant conflict hash float mixed arity late = absurd (omega arith)
+of_late P variant conflict hash float mixed unbound_variable late = absurd (omega arith)
+of_late P variant conflict hash float mixed cyclic late = absurd (omega arith)
+of_late P variant conflict hash float mixed irregular late = absurd (omega arith)
+of_late P variant conflict hash float mixed too_many_constructors late = absurd (omega arith)
+of_late P variant conflict hash float mixed not_variant late = variant
+of_late P variant conflict hash float mixed tag_clash late = conflict
+of_late P variant conflict hash float mixed hash_clash late = hash
+of_late P variant conflict hash float mixed float_in_group late = float
+of_late P variant conflict hash float mixed mixed_record late = mixed
 
 is_late : (b : HeadBreak) → 7 ≤ turn (rule_of_break b)
 is_late (breaks.NotVariant k) = omega arith
 is_late (breaks.TagClash k) = omega arith
 is_late (breaks.HashClash k one other) = omega arith
 is_late (breaks.FloatInGroup k) = omega arith
+is_late (breaks.MixedRecord k) = omega arith
 
 named_agree :
     (H G : ℕ → List ℕ → List ℕ → Type 0) (b : HeadBreak)
@@ -39,6 +41,7 @@ named_agree H G (breaks.NotVariant k) to named = tt
 named_agree H G (breaks.TagClash k) to named = tt
 named_agree H G (breaks.HashClash k one other) to named = to k one other named
 named_agree H G (breaks.FloatInGroup k) to named = tt
+named_agree H G (breaks.MixedRecord k) to named = tt
 
 module _ (P Q : Rule → ℕ → Type 0) (H G : ℕ → List ℕ → List ℕ → Type 0)
     (to : (k : ℕ) (one other : List ℕ) → H k one other → G k one other) where

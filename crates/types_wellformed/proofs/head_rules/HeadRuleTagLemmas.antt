@@ -197,7 +197,7 @@ module _ (types : List Ty) (decls : List Decl) (tagged : List (List TagItem)) (a
   tags_agree kept rule late k =
       of_late (λ r. TagsBreak tagged r k ↔ BracketsBreak decls all r k)
       (λ never. absurd never, λ some. absurd (kept k some)) (conflict_agree k) (hash_agree k)
-      (λ never. absurd never, λ some. some.2) rule late
+      (λ never. absurd never, λ some. some.2) (λ never. absurd never, λ some. some.2) rule late
 
   pub names_agree :
       (k : ℕ) (one other : List ℕ) → CollideAmong tagged k one other → BracketsHash decls all k one other

@@ -13,7 +13,7 @@ use Rattle.types_spec.specs.types.TypeNodes.{type_at, types_of}
 use Rattle.types_spec.specs.types.WellFormed.{AreVariants}
 use Rattle.types_spec.specs.types.Head.{head}
 use Rattle.types_spec.specs.types.Occurrence.{Placed, PlacedItem, Occurrence, use_of, variable_at, bracket_of, DeclPositions}
-use Rattle.types_spec.specs.types.Scope.{Rule, turn, not_variant, tag_clash, hash_clash, float_in_group}
+use Rattle.types_spec.specs.types.Scope.{Rule, turn, not_variant, tag_clash, hash_clash, float_in_group, mixed_record}
 use Rattle.types_spec.specs.types.Scope.{BreaksIn, BreaksInDecl, BreaksInFile, BreaksInType, NamesBreak, decls_of, declared_names}
 use Rattle.types_resolve.specs.scope.Least.{IsLeast}
 use Rattle.types_resolve.proofs.scope.ScopeLeastLemmas.{least_same}
@@ -26,9 +26,9 @@ use Rattle.types_wellformed.specs.declared.head_rules.broken.HeadBreak.TheVarian
 use Rattle.types_wellformed.specs.head_rules.Broken.{rule_of_break, IsFirstOfHeads, TypeHashes, FileHashes}
 use Rattle.types_wellformed.specs.head_rules.NumberedTypes.{IsNumbered, AreNumbered, AreAllNumbered}
 use Rattle.types_wellformed.specs.head_rules.Rules.{IsWithin, AreWithin, AreAllWithin, item_at, items_at, brackets_at}
-use Rattle.types_wellformed.specs.head_rules.Rules.{IncludesOther, ItemsBreak, BracketsBreak, BracketsHash, SomeFlat}
+use Rattle.types_wellformed.specs.head_rules.Rules.{IncludesOther, ItemsBreak, BracketsBreak, BracketsHash, IsFlatDecl, IsMixedDecl, SomeDeclBreaks}
 use Rattle.types_wellformed.proofs.head_rules.HeadRuleFirstLemmas.{of_late, first_agree, all_agree, found_first}
-use Rattle.types_wellformed.proofs.head_rules.HeadRuleFlatLemmas.{flat_agree}
+use Rattle.types_wellformed.proofs.head_rules.HeadRuleDeclaredLemmas.{declared_agree}
 
 -- ---- the numbers of items
 
@@ -151,7 +151,7 @@ module _ (decls : List Decl) where
           λ some. let here = known some.0 some.1 in (some.0, here, (variant_agree found some.0 k here).1 some.2),
         ) (λ some. (some.0, occurs some.0 some.1, some.2), λ some. (some.0, known some.0 some.1, some.2))
         (λ some. (some.0, occurs some.0 some.1, some.2), λ some. (some.0, known some.0 some.1, some.2))
-        (λ some. some.2, λ never. absurd never) rule late
+        (λ some. some.2, λ never. absurd never) (λ some. some.2, λ never. absurd never) rule late
 
     pub type_names :
         (k : ℕ) (one other : List ℕ) → BracketsHash decls (all_known found) k one other
@@ -229,7 +229,7 @@ module _ (found : List (List TypeBrackets)) (all : List DeclPositions) (are : Ar
       (λ less. bracket_rule not_variant (λ d k. (λ b. b, λ b. b)) (λ k never. never) (omega arith))
       (λ less. bracket_rule tag_clash (λ d k. (λ b. b, λ b. b)) (λ k never. never) (omega arith))
       (λ less. bracket_rule hash_clash (λ d k. (λ b. b, λ b. b)) (λ k never. never) (omega arith))
-      (λ less. absurd (omega arith)) rule late before
+      (λ less. absurd (omega arith)) (λ less. absurd (omega arith)) rule late before
 
   pub file_names :
       (k : ℕ) (one other : List ℕ) → BracketsHash (decls_of all) (flat_map all_known found) k one other
@@ -248,12 +248,13 @@ module _ (found : List (List TypeBrackets)) (all : List DeclPositions) (are : Ar
   abbrev pub First : Option HeadBreak → Type 0
   First result = IsFirstOfHeads (BreaksInFile all) (FileHashes all) result
 
-  -- The rule of a violation on brackets has an earlier turn than the rule on records.
+  -- The rule of a violation on brackets has an earlier turn than the rules on records.
   below_float : (b : HeadBreak) → Known (Some b) → turn (rule_of_break b) < 10
   below_float (breaks.NotVariant k) first = omega arith
   below_float (breaks.TagClash k) first = omega arith
   below_float (breaks.HashClash k one other) first = omega arith
   below_float (breaks.FloatInGroup k) first = absurd first.0.2
+  below_float (breaks.MixedRecord k) first = absurd first.0.2
 
   first_found : (result : Option HeadBreak) → is_some result ≡ true → Known result → First result
   first_found None some first = absurd (true≢false (sym some))
@@ -286,25 +287,55 @@ module _ (found : List (List TypeBrackets)) (all : List DeclPositions) (are : Ar
     file_first some = first_found result some known_first
 
     module _ (names : List Placed) (named : names ≡ declared_names all) (none : is_some result ≡ false) where
-      flat_first : (position : ℕ) → IsLeast (SomeFlat decls names) (Some position) → First (Some (breaks.FloatInGroup position))
+      abbrev Flat : ℕ → Type 0
+      Flat k = SomeDeclBreaks (IsFlatDecl decls) decls names k
+
+      abbrev Mixed : ℕ → Type 0
+      Mixed k = SomeDeclBreaks (IsMixedDecl decls) decls names k
+
+      flat_agree : (k : ℕ) → Flat k ↔ BreaksInFile all float_in_group k
+      flat_agree = declared_agree IsFlatDecl decls names all declares named
+
+      mixed_agree : (k : ℕ) → Mixed k ↔ BreaksInFile all mixed_record k
+      mixed_agree = declared_agree IsMixedDecl decls names all declares named
+
+      pub flat_first : (position : ℕ) → IsLeast Flat (Some position) → First (Some (breaks.FloatInGroup position))
       flat_first position least =
           found_first (BreaksInFile all) (FileHashes all) (breaks.FloatInGroup position) float_in_group refl
-          (least_same (SomeFlat decls names) (BreaksInFile all float_in_group) (Some position) least
-          (λ k. (flat_agree decls names all declares named k).0) (λ k. (flat_agree decls names all declares named k).1))
+          (least_same Flat (BreaksInFile all float_in_group) (Some position) least (λ k. (flat_agree k).0) (λ k. (flat_agree k).1))
           (none_before result none known_first) tt
 
-      none_first : IsLeast (SomeFlat decls names) None → First None
-      none_first least rule k late =
-          let before = none_before result none known_first in
-          of_late (λ r. ¬ BreaksInFile all r k) (before not_variant (omega arith) (omega arith) k)
-          (before tag_clash (omega arith) (omega arith) k) (before hash_clash (omega arith) (omega arith) k)
-          (λ broken. least k ((flat_agree decls names all declares named k).1 broken)) rule late
+      module _ (no_flat : IsLeast Flat None) where
+        -- No rule before the rule on mixed records is broken.
+        none_before_mixed : (rule : Rule) → 7 ≤ turn rule → turn rule < 11 → (k : ℕ) → ¬ BreaksInFile all rule k
+        none_before_mixed rule late =
+            let before = none_before result none known_first in
+            of_late (λ r. turn r < 11 → (k : ℕ) → ¬ BreaksInFile all r k)
+            (λ below. before not_variant (omega arith) (omega arith))
+            (λ below. before tag_clash (omega arith) (omega arith))
+            (λ below. before hash_clash (omega arith) (omega arith))
+            (λ below k broken. no_flat k ((flat_agree k).1 broken))
+            (λ below. absurd (omega (arith, below))) rule late
 
-      pub flat_result :
-          (position : Option ℕ) → IsLeast (SomeFlat decls names) position
-          → First (option_map (λ k. breaks.FloatInGroup k) position)
-      flat_result None least = none_first least
-      flat_result (Some k) least = flat_first k least
+        mixed_first : (position : ℕ) → IsLeast Mixed (Some position) → First (Some (breaks.MixedRecord position))
+        mixed_first position least =
+            found_first (BreaksInFile all) (FileHashes all) (breaks.MixedRecord position) mixed_record refl
+            (least_same Mixed (BreaksInFile all mixed_record) (Some position) least (λ k. (mixed_agree k).0) (λ k. (mixed_agree k).1))
+            none_before_mixed tt
+
+        none_first : IsLeast Mixed None → First None
+        none_first least rule k late =
+            let before = none_before_mixed in
+            of_late (λ r. ¬ BreaksInFile all r k) (before not_variant (omega arith) (omega arith) k)
+            (before tag_clash (omega arith) (omega arith) k) (before hash_clash (omega arith) (omega arith) k)
+            (before float_in_group (omega arith) (omega arith) k)
+            (λ broken. least k ((mixed_agree k).1 broken)) rule late
+
+        pub mixed_result :
+            (position : Option ℕ) → IsLeast Mixed position
+            → First (option_map (λ k. breaks.MixedRecord k) position)
+        mixed_result None least = none_first least
+        mixed_result (Some k) least = mixed_first k least
 
 -- ---- the brackets of a type
 

@@ -38,12 +38,14 @@ module _ (tagged : List (List TagItem)) where
   before_conflict : (other : Rule) → 7 ≤ turn other → turn other < 8 → (j : ℕ) → ¬ TagsBreak tagged other j
   before_conflict = of_late (λ r. turn r < 8 → (j : ℕ) → ¬ TagsBreak tagged r j)
       (λ less j never. never) (λ less. absurd (omega arith)) (λ less. absurd (omega arith)) (λ less j never. never)
+      (λ less j never. never)
 
   before_hash :
       ((k : ℕ) → ¬ SomeBreaks tagged ConflictsIn k) → (other : Rule) → 7 ≤ turn other → turn other < 9 → (j : ℕ)
       → ¬ TagsBreak tagged other j
   before_hash none = of_late (λ r. turn r < 9 → (j : ℕ) → ¬ TagsBreak tagged r j)
       (λ less j never. never) (λ less. none) (λ less. absurd (omega arith)) (λ less j never. never)
+      (λ less j never. never)
 
   pub conflict_first :
       (position : ℕ) → IsLeast (SomeBreaks tagged ConflictsIn) (Some position)
@@ -64,7 +66,7 @@ module _ (tagged : List (List TagItem)) where
       ((k : ℕ) → ¬ SomeBreaks tagged ConflictsIn k) → IsLeastAmong tagged None
       → IsFirstOfHeads (TagsBreak tagged) (CollideAmong tagged) None
   tags_kept none least rule k late =
-      of_late (λ r. ¬ TagsBreak tagged r k) (λ never. never) (none k) (least.least k) (λ never. never) rule late
+      of_late (λ r. ¬ TagsBreak tagged r k) (λ never. never) (none k) (least.least k) (λ never. never) (λ never. never) rule late
 
 -- ---- brackets
 
@@ -129,7 +131,7 @@ module _ (decls : List Decl) (types : List Ty) (brackets : List (List NumberedIt
       AreAllWithin types brackets → IsLeast (SomeBreaks brackets (ItemsInclude decls types)) None
       → StandApart decls types → IsFirstOfHeads (BracketsBreak decls all) (BracketsHash decls all) None
   apart_first within none apart rule k late =
-      of_late (λ r. ¬ BracketsBreak decls all r k) (variant_least None none k) conflict hash (λ some. some.2) rule late
+      of_late (λ r. ¬ BracketsBreak decls all r k) (variant_least None none k) conflict hash (λ some. some.2) (λ some. some.2) rule late
     where
       conflict : ¬ BracketsBreak decls all tag_clash k
       conflict (items, among, (i, j, one, other, has, before, same, unlike)) =

@@ -52,6 +52,7 @@ head_at lexemes end (heads.TagClash k) = faults.TagClash (byte_of lexemes end k)
 head_at lexemes end (heads.HashClash k one other) =
     faults.HashClash (byte_of lexemes end k) one other
 head_at lexemes end (heads.FloatInGroup k) = faults.FloatInGroup (byte_of lexemes end k)
+head_at lexemes end (heads.MixedRecord k) = faults.MixedRecord (byte_of lexemes end k)
 
 -- ---- the answer that a fault reports
 
@@ -70,6 +71,7 @@ known (faults.NotVariant position) = Some (broken scope.not_variant position)
 known (faults.TagClash position) = Some (broken scope.tag_clash position)
 known (faults.HashClash position one other) = Some (broken scope.hash_clash position)
 known (faults.FloatInGroup position) = Some (broken scope.float_in_group position)
+known (faults.MixedRecord position) = Some (broken scope.mixed_record position)
 known faults.Memory = None
 
 -- If the fault is not a memory fault, then the answer that the fault reports is the answer to the

@@ -1,7 +1,13 @@
--- The texts of faults: a name, and a position in the form that the caller chooses.
-use Rattle.std.specs.Prelude.{ℕ, ◌≡◌, List, [], ◌++◌, Option, Some, None, codes}
+-- The texts of faults: what is wrong, and a position. If the caller chooses lines and columns, the
+-- text of a broken rule also contains the name that breaks the rule.
+use Rattle.std.specs.Prelude.{ℕ, ◌≡◌, Bool, true, false, List, [], ◌++◌, take, drop, Option, Some}
+use Rattle.std.specs.Prelude.{None, Result, Ok, Err, codes}
+use Rattle.base_data.specs.lines.Lines.{position_in}
 use Rattle.types_lex.specs.declared.lexeme.LexFault.{LexFault}
 use Rattle.types_lex.specs.declared.lexeme.LexFault.TheVariants as lexer
+use Rattle.types_lex.specs.declared.found_lexeme.LexStep.{LexStep}
+use Rattle.types_lex.specs.declared.found_lexeme.LexStep.TheVariants.{Gap, Word}
+use Rattle.types_lex.specs.Lexer.{step_at}
 use Rattle.types_spec.specs.types.Scope as scope
 use Rattle.types_wellformed.specs.declarations.DeclarationAnswer.{DeclarationAnswer, accepted}
 use Rattle.types_wellformed.specs.declarations.DeclarationAnswer.{no_lexemes, no_text}
@@ -20,30 +26,55 @@ lexer_text known (lexer.OpenComment position) = placed_text (codes "OpenComment"
 lexer_text known (lexer.TooBig position) = placed_text (codes "TooBig") (known position)
 lexer_text known lexer.Memory = []
 
-abbrev pub rule_name : scope.Rule → List ℕ
-rule_name scope.twice = codes "Twice"
-rule_name scope.unknown_name = codes "UnknownName"
-rule_name scope.arity = codes "Arity"
-rule_name scope.unbound_variable = codes "UnboundVar"
-rule_name scope.cyclic = codes "Cyclic"
-rule_name scope.irregular = codes "Irregular"
-rule_name scope.too_many_constructors = codes "TooManyConstructors"
-rule_name scope.not_variant = codes "NotVariant"
-rule_name scope.tag_clash = codes "TagClash"
-rule_name scope.hash_clash = codes "HashClash"
-rule_name scope.float_in_group = codes "FloatInGroup"
+-- The first lexeme of a text in parentheses, given the first token of the text. If the text begins
+-- with no lexeme, the empty text.
+abbrev pub name_of_step : List ℕ → Result LexStep LexFault → List ℕ
+name_of_step text (Ok (Word word)) = codes "(" ++ take word.len text ++ codes ")"
+name_of_step text (Ok (Gap len)) = []
+name_of_step text (Err fault) = []
 
--- The text of an answer that is a fault. `known` prints a position.
-abbrev pub answer_text : {Tree : Type 0} → (known : ℕ → List ℕ) → DeclarationAnswer Tree → List ℕ
-answer_text known (accepted tree) = []
-answer_text known (no_lexemes fault) = lexer_text known fault
-answer_text known (no_text position) = placed_text (codes "Syntax") (known position)
-answer_text known (too_deep position) = placed_text (codes "TooDeep") (known position)
-answer_text known (broken rule position) = placed_text (rule_name rule) (known position)
+abbrev pub name_at : List ℕ → ℕ → List ℕ
+name_at text position = name_of_step (drop position text) (step_at (drop position text))
 
--- The text is the text of the answer. If there is no answer, then no text satisfies the definition.
-abbrev pub IsTextOf : {Tree : Type 0} → (known : ℕ → List ℕ) → Option (DeclarationAnswer Tree)
+-- The printed form of the name at an offset of a text. The name is printed only if `lines` is true.
+abbrev pub name_in : (lines : Bool) → (text : List ℕ) → ℕ → List ℕ
+name_in false text position = []
+name_in true text position = name_at text position
+
+-- The text of a broken rule, given the printed form of the name that breaks the rule. The lexeme
+-- that breaks a rule on the items of a bracket may begin a type and be no name, so no name is
+-- printed.
+abbrev pub rule_text : scope.Rule → (name : List ℕ) → List ℕ
+rule_text scope.twice name = codes "Twice" ++ name
+rule_text scope.unknown_name name = codes "UnknownName" ++ name
+rule_text scope.arity name = codes "Arity" ++ name
+rule_text scope.unbound_variable name = codes "UnboundVar" ++ name
+rule_text scope.cyclic name = codes "Cyclic" ++ name
+rule_text scope.irregular name = codes "Irregular" ++ name
+rule_text scope.too_many_constructors name = codes "TooManyConstructors" ++ name
+rule_text scope.not_variant name = codes "NotVariant"
+rule_text scope.tag_clash name = codes "TagClash"
+rule_text scope.hash_clash name = codes "HashClash"
+rule_text scope.float_in_group name = codes "FloatInGroup" ++ name
+rule_text scope.mixed_record name = codes "MixedRecord" ++ name
+
+-- The text of an answer that is a fault of `text`. If `lines` is true, positions are printed by
+-- line and column, and names are printed.
+abbrev pub answer_text : {Tree : Type 0} → (lines : Bool) (text : List ℕ) → DeclarationAnswer Tree
     → List ℕ
-    → Type 0
-IsTextOf known None text = ⊥
-IsTextOf known (Some answer) text = text ≡ answer_text known answer
+answer_text lines text (accepted tree) = []
+answer_text lines text (no_lexemes fault) = lexer_text (position_in lines text) fault
+answer_text lines text (no_text position) =
+    placed_text (codes "Syntax") (position_in lines text position)
+answer_text lines text (too_deep position) =
+    placed_text (codes "TooDeep") (position_in lines text position)
+answer_text lines text (broken rule position) =
+    placed_text (rule_text rule (name_in lines text position)) (position_in lines text position)
+
+-- `refusal` is the text of the answer. If there is no answer, then no text satisfies the
+-- definition.
+abbrev pub IsTextOf : {Tree : Type 0} → (lines : Bool) (text : List ℕ)
+    → Option (DeclarationAnswer Tree)
+    → List ℕ → Type 0
+IsTextOf lines text None refusal = ⊥
+IsTextOf lines text (Some answer) refusal = refusal ≡ answer_text lines text answer

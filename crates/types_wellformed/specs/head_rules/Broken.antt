@@ -3,7 +3,7 @@ use Rattle.std.specs.Prelude.{ℕ, ◌<◌, ◌≤◌, List, Option, Some, None,
 use Rattle.types_spec.specs.declared.types.decl.Decl.{Decl}
 use Rattle.types_spec.specs.types.Occurrence.{PlacedItem, Occurrence, bracket_of, DeclPositions}
 use Rattle.types_spec.specs.types.Scope.{Rule, not_variant, tag_clash, hash_clash, float_in_group}
-use Rattle.types_spec.specs.types.Scope.{turn}
+use Rattle.types_spec.specs.types.Scope.{mixed_record, turn}
 use Rattle.types_spec.specs.types.Scope.{decls_of}
 use Rattle.types_wellformed.specs.brackets.Trees.{NamesHashAt}
 use Rattle.types_wellformed.specs.declared.head_rules.broken.HeadBreak.{HeadBreak}
@@ -14,12 +14,14 @@ rule_of_break (breaks.NotVariant k) = not_variant
 rule_of_break (breaks.TagClash k) = tag_clash
 rule_of_break (breaks.HashClash k one other) = hash_clash
 rule_of_break (breaks.FloatInGroup k) = float_in_group
+rule_of_break (breaks.MixedRecord k) = mixed_record
 
 abbrev pub position_of_break : HeadBreak → ℕ
 position_of_break (breaks.NotVariant k) = k
 position_of_break (breaks.TagClash k) = k
 position_of_break (breaks.HashClash k one other) = k
 position_of_break (breaks.FloatInGroup k) = k
+position_of_break (breaks.MixedRecord k) = k
 
 -- If the violation is a hash collision, then the collision's two names have the same hash at the
 -- collision's lexeme.

@@ -1,6 +1,6 @@
 -- The rules that depend on heads, over numbered items of brackets and over declarations.
-use Rattle.std.specs.Prelude.{ℕ, ◌<◌, ◌≡◌, List, [], Option, Some, None, IsSome, option_and_then}
-use Rattle.std.specs.Prelude.{Contains, IfSome, All, length, map, slice_get}
+use Rattle.std.specs.Prelude.{ℕ, ◌<◌, ◌≡◌, true, List, [], Option, Some, None, IsSome}
+use Rattle.std.specs.Prelude.{option_and_then, Contains, IfSome, All, length, map, slice_get}
 use Rattle.types_spec.specs.declared.types.decl.Decl.{Decl}
 use Rattle.types_spec.specs.declared.types.head.HeadOf.{HeadOf}
 use Rattle.types_spec.specs.declared.types.head.HeadOf.TheVariants as heads
@@ -13,7 +13,7 @@ use Rattle.types_spec.specs.types.Head.{head}
 use Rattle.types_spec.specs.types.Occurrence.{Placed, PlacedItem}
 use Rattle.types_spec.specs.types.Reached.{AreDistinct}
 use Rattle.types_spec.specs.types.Scope.{Rule, not_variant, tag_clash, hash_clash}
-use Rattle.types_spec.specs.types.Scope.{ConflictsAt, HashesAt, IsFlatThroughGroup}
+use Rattle.types_spec.specs.types.Scope.{ConflictsAt, HashesAt, IsFlatThroughGroup, is_mixed_body}
 use Rattle.types_resolve.specs.scope.Least.{IsLeast}
 use Rattle.types_wellformed.specs.declared.brackets.tag_item.TagItem.{TagItem}
 use Rattle.types_wellformed.specs.declared.brackets.tag_names.Collision.{Collision}
@@ -127,14 +127,21 @@ IsOwnDecl group (Some d) = IsSome (abbreviated d.body) × (d.group ≡ group)
 abbrev pub IsOwn : List Decl → ℕ → Ty → Type 0
 IsOwn decls group t = IsOwnDecl group (option_and_then (declaration_of decls) (name_of t))
 
--- Declaration `i` is a record that is flat through its own group, and the record's name is at
--- lexeme `k`.
-abbrev pub FlatAt : List Decl → List Placed → ℕ → ℕ → Type 0
-FlatAt decls names i k =
-    (d : Decl) × (p : Placed) × (slice_get decls i ≡ Some d) × (slice_get names i ≡ Some p)
-    × (p.0 ≡ k) × IsFlatThroughGroup decls d.group d.body
+-- The declaration is a record that is flat through its own group.
+abbrev pub IsFlatDecl : List Decl → Decl → Type 0
+IsFlatDecl decls d = IsFlatThroughGroup decls d.group d.body
 
--- Some declaration is a record that is flat through its own group, and the record's name is at
--- lexeme `k`.
-abbrev pub SomeFlat : List Decl → List Placed → ℕ → Type 0
-SomeFlat decls names k = (i : ℕ) × (i < length decls) × FlatAt decls names i k
+-- The declaration is a mixed record.
+abbrev pub IsMixedDecl : List Decl → Decl → Type 0
+IsMixedDecl decls d = is_mixed_body decls d.body ≡ true
+
+-- Declaration `i` breaks a rule on declarations, and the declared name is at lexeme `k`.
+abbrev pub DeclBreaksAt : (Decl → Type 0) → List Decl → List Placed → ℕ → ℕ → Type 0
+DeclBreaksAt Breaks decls names i k =
+    (d : Decl) × (p : Placed) × (slice_get decls i ≡ Some d) × (slice_get names i ≡ Some p)
+    × (p.0 ≡ k) × Breaks d
+
+-- Some declaration breaks a rule on declarations, and the declared name is at lexeme `k`.
+abbrev pub SomeDeclBreaks : (Decl → Type 0) → List Decl → List Placed → ℕ → Type 0
+SomeDeclBreaks Breaks decls names k =
+    (i : ℕ) × (i < length decls) × DeclBreaksAt Breaks decls names i k

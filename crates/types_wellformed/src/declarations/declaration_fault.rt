@@ -51,6 +51,9 @@ pub enum DeclFault {
     /// The declared name of a record whose fields all expand to `float`. At least one field expands
     /// through an abbreviation of the record's group.
     FloatInGroup(usize),
+    /// The declared name of a record with fields that expand to `float` and fields that expand to
+    /// `_`, and no other fields.
+    MixedRecord(usize),
     /// An allocation failed.
     Memory,
 }
@@ -113,5 +116,6 @@ pub fn head_fault(broken: HeadBreak, lexemes: &[Lexeme], end: usize) -> DeclFaul
             DeclFault::HashClash(byte_of(lexemes, end, k), one, other)
         }
         HeadBreak::FloatInGroup(k) => DeclFault::FloatInGroup(byte_of(lexemes, end, k)),
+        HeadBreak::MixedRecord(k) => DeclFault::MixedRecord(byte_of(lexemes, end, k)),
     }
 }

@@ -13,4 +13,6 @@ pub enum HeadBreak {
     HashClash(usize, List<u8>, List<u8>),
     /// A record is flat through an abbreviation of its own group.
     FloatInGroup(usize),
+    /// A record has fields of type `float` and of type `_`, and no other fields.
+    MixedRecord(usize),
 }

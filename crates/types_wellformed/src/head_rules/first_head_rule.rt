@@ -15,6 +15,7 @@ use crate::head_rules::bracket_numbers::{number_brackets, number_declared};
 use crate::head_rules::broken::HeadBreak;
 use crate::head_rules::flat_records::least_flat;
 use crate::head_rules::item::NumberedItem;
+use crate::head_rules::mixed::least_mixed;
 use crate::head_rules::tag_conflicts::first_of_tags;
 use crate::head_rules::tags::tagged_brackets;
 use crate::head_rules::variant::least_not_variant;
@@ -47,13 +48,13 @@ fn first_of_brackets(
     first_of_tags(alloc, tagged.as_slice())
 }
 
-/// Returns the violation of the rule on records at the lexeme `position`, or `None` if there is no
-/// lexeme.
-fn float_break(position: Option<usize>) -> Option<HeadBreak>
-    ensures { result ≡ option_map (λ k. HeadBreak.FloatInGroup k) position }
+/// Returns the violation of the rule on mixed records at the lexeme `position`, or `None` if there
+/// is no lexeme.
+fn mixed_break(position: Option<usize>) -> Option<HeadBreak>
+    ensures { result ≡ option_map (λ k. HeadBreak.MixedRecord k) position }
 {
     match position {
-        Some(k) => Some(HeadBreak::FloatInGroup(k)),
+        Some(k) => Some(HeadBreak::MixedRecord(k)),
         None => None,
     }
 }
@@ -77,8 +78,11 @@ fn first_of_file(
     if let Some(found) = first_of_brackets(alloc, types, decls, numbered.as_slice())? {
         return Ok(Some(found));
     }
-    let position = least_flat(alloc, types, decls, names)?;
-    Ok(float_break(position))
+    if let Some(position) = least_flat(alloc, types, decls, names)? {
+        return Ok(Some(HeadBreak::FloatInGroup(position)));
+    }
+    let mixed = least_mixed(alloc, types, decls, names)?;
+    Ok(mixed_break(mixed))
 }
 
 /// Returns the first rule depending on heads that a type breaks, given the type's brackets.

@@ -7,7 +7,7 @@ ghost use Rattle.types_spec.specs.declared.types.decl.Field.{Field as Member};
 ghost use Rattle.types_spec.specs.types.Shape.{is_float};
 ghost use Rattle.types_resolve.specs.scope.Least.{IsLeast};
 ghost use Rattle.types_table.specs.store.Held.{Grows};
-ghost use Rattle.types_wellformed.specs.head_rules.Rules.{IsOwn, SomeFlat};
+ghost use Rattle.types_wellformed.specs.head_rules.Rules.{IsOwn, IsFlatDecl, SomeDeclBreaks};
 
 use base_data::model::Memory;
 use std::alloc::Global;
@@ -126,7 +126,8 @@ pub fn least_flat(
     names: &[LocatedName],
 ) -> Result<Option<usize>, Memory>
     requires named { length decls.now ≡ length names.now }
-    ensures { IfOk result (IsLeast (SomeFlat decls.now names.now)) }
+    ensures { IfOk result
+        (IsLeast (SomeDeclBreaks (IsFlatDecl decls.now) decls.now names.now)) }
 {
     let mut best = None;
     for i in 0..decls.len() {

@@ -4,15 +4,13 @@ use Rattle.cli_spec.specs.declared.exit.Exit.TheVariants.{Declarations}
 use Rattle.types_wellformed.specs.declarations.DeclarationFault.{known}
 use Rattle.types_parse.specs.grammar.Grammar.{FileTree}
 use Rattle.types_wellformed.specs.declarations.DeclarationFaultText.{answer_text}
-use Rattle.base_data.specs.lines.Lines.{position_in}
-use Rattle.base_data.specs.lines.Positions.{reported_by}
 use Rattle.run_types.proofs.RequestedTypeLemmas.{refusal_known, memory_known}
 use Rattle.run_types.proofs.requested_texts.declarations_exit.Goals as goal
 
 pub returns-in-Ok : goal.returns-in-Ok
 returns-in-Ok c =
-    refusal_known c.args.lines c.args.text.now (reported_by c.of_text.result) c.of_text.ensures c.in-Ok.refusal (Declarations c.in-Ok.refusal) declarations refl
+    refusal_known c.args.lines c.args.text.now c.in-Ok.refusal (Declarations c.in-Ok.refusal) declarations refl
     (known {Tree = FileTree} c.args.fault.now) c.in-Ok.ensures.files
 
 pub returns-in-Err : goal.returns-in-Err
-returns-in-Err c = memory_known (known {Tree = FileTree} c.args.fault.now) (λ answer. declarations (answer_text (position_in c.args.lines c.args.text.now) answer))
+returns-in-Err c = memory_known (known {Tree = FileTree} c.args.fault.now) (λ answer. declarations (answer_text c.args.lines c.args.text.now answer))

@@ -1,17 +1,18 @@
 use Rattle.std.proofs.Common.{sym, arith}
 use Rattle.std.proofs.lemmas.Option.{get_or_from_slice_get}
-use Rattle.types_wellformed.proofs.head_rules.HeadRuleFlatLemmas.{more_flat, all_flat}
+use Rattle.types_wellformed.specs.head_rules.Rules.{IsFlatDecl}
+use Rattle.types_wellformed.proofs.head_rules.HeadRuleDeclaredLemmas.{more_declared, all_declared}
 use Rattle.types_wellformed.proofs.head_rules.flat_records.least_flat.Goals as goal
 
 pub loop-i-preserved : goal.loop-i-preserved
 loop-i-preserved c =
     let decls = c.args.decls.now in
     let d = c.at.result.now in
-    more_flat decls c.args.names.now c.loop-i.i d c.index-names-i.result c.in_ok-flat.flat
+    more_declared (IsFlatDecl decls) decls c.args.names.now c.loop-i.i d c.index-names-i.result c.in_ok-flat.flat
     c.position.result c.loop-i.best c.position_if.result c.earliest-best.result c.requires.named (omega arith)
     (sym (get_or_from_slice_get decls c.loop-i.i d d c.at.ensures))
     c.index-names-i.is c.position.ensures c.position_if.ensures c.in_ok-flat.ensures c.loop-i.invariant c.earliest-best.ensures
 
 pub returns : goal.returns
 returns c =
-    all_flat c.args.decls.now c.args.names.now c.loop-i.i c.loop-i.best (omega arith) (omega arith) c.loop-i.invariant
+    all_declared (IsFlatDecl c.args.decls.now) c.args.decls.now c.args.names.now c.loop-i.i c.loop-i.best (omega arith) (omega arith) c.loop-i.invariant

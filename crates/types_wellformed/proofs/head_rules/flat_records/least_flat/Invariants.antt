@@ -1,7 +1,7 @@
 use Rattle.types_resolve.specs.scope.Least.{IsLeast}
 use Rattle.types_resolve.proofs.scope.ScopeLeastLemmas.{Before}
-use Rattle.types_wellformed.specs.head_rules.Rules.{FlatAt}
+use Rattle.types_wellformed.specs.head_rules.Rules.{IsFlatDecl, DeclBreaksAt}
 use Rattle.types_wellformed.proofs.head_rules.flat_records.least_flat.Given as goal
 
 abbrev pub invariant-loop-i : goal.invariant-loop-i
-invariant-loop-i l = IsLeast (Before (FlatAt l.decls l.names) l.i) l.best
+invariant-loop-i l = IsLeast (Before (DeclBreaksAt (IsFlatDecl l.decls) l.decls l.names) l.i) l.best
