@@ -57,7 +57,7 @@ EXCEPTIONS = [
     ("crates/marshal_heap/*", r"lent", "memory that is lent out, in contracts of raw pointers"),
     ("crates/marshal_heap/proofs/arena/*", r"\w*(?:Tells|told|said|place|lent|Lends|Lending|lends)\w*", "names of the toolchain's logic of raw pointers, and the steps of its proofs"),
     ("crates/marshal_heap/specs/arena/*", r"[Ll]ends", "memory that is lent, by the formula `Lends` of std"),
-    ("crates/cmd_gen/proofs/generator/received_bytes/*", r"\w*Tells", "names of the toolchain's logic of raw pointers"),
+    ("crates/base_io/proofs/history/*", r"\w*Tells", "names of the toolchain's logic of raw pointers"),
     ("crates/types_lex/proofs/numbers/integer/*", r"front", "a clause of std's `split_at`"),
     ("*", r"quick_build|out/quick", "the script tools/quick_build.sh and its output"),
     ("*", r"in place|in_place|takes? place|took place", "everyday English: `in place of`, `takes place`"),

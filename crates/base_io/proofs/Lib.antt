@@ -1,3 +1,4 @@
 mod Write
 mod Lookup
 pub mod WritesLemmas
+pub mod HistoryLemmas

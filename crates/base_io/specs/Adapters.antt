@@ -1,7 +1,8 @@
--- The parts of the adapters that contracts refer to: the reader or writer inside, and the number of
--- failed calls.
-use Rattle.std.specs.Prelude.{ℕ, None}
-use Rattle.base_io.specs.StreamState.{ByteState}
+-- The parts of the adapters that contracts refer to: the reader or writer inside, the number of
+-- failed calls, and the states as a source and a sink.
+use Rattle.std.specs.Prelude.{ℕ, List, Some, None}
+use Rattle.base_io.specs.History.{Event, bytes_of}
+use Rattle.base_io.specs.StreamState.{ByteState, SourceState}
 use Rattle.base_io.specs.declared.real.StdSource.{StdSource}
 use Rattle.base_io.specs.declared.real.StdSink.{StdSink}
 
@@ -17,6 +18,14 @@ writer_of sink = sink.writer
 abbrev pub write_faults_of : {W : Type 0} → StdSink W → ℕ
 write_faults_of sink = sink.faults
 
--- The state of an adapter: only the number of failed calls is known, and the bytes are not known.
-abbrev pub inconclusive : ℕ → ByteState
-inconclusive faults = record { bytes = None; faults = faults }
+-- The state of a source whose remaining bytes are not known.
+abbrev pub inconclusive : List Event → SourceState
+inconclusive calls = record { bytes = None; calls = calls }
+
+-- The state of a source that reads from a reader.
+abbrev pub source_state : {R : Type 0} → StdSource R → SourceState
+source_state source = inconclusive source.history.calls
+
+-- The state of a sink that writes to a writer. The bytes are those that the calls moved.
+abbrev pub sink_state : {W : Type 0} → StdSink W → ByteState
+sink_state sink = record { bytes = Some (bytes_of sink.history.calls); faults = sink.faults }

@@ -5,7 +5,8 @@ use Rattle.std.specs.Prelude.{string_bytes, Vec}
 use Rattle.std.specs.declared.alloc.Global.{Global}
 use Rattle.base_io.specs.IoFaults.{last_count, count_after}
 use Rattle.base_io.specs.Files.{File}
-use Rattle.base_io.specs.StreamState.{ByteState, FilesState}
+use Rattle.base_io.specs.History.{Event}
+use Rattle.base_io.specs.StreamState.{ByteState, SourceState, FilesState}
 
 -- The plan for one kind of call: the numbers of the calls that fail, the number of the next call,
 -- and the number of failed calls.
@@ -30,12 +31,13 @@ after_call plan failed = record {
 abbrev pub plan_of : List ℕ → Plan
 plan_of failing = record { failing = failing; calls = 0; faults = 0 }
 
--- A source in memory: the remaining bytes, the maximum number of bytes that a call returns, and the
--- plan of the calls.
+-- A source in memory: the remaining bytes, the maximum number of bytes that a call returns, the
+-- plan of the calls, and the calls so far.
 pub record SourceValue : Type 0 where
   pub left : List ℕ
   pub chunk : ℕ
   pub takes : Plan
+  pub calls : List Event
 
 -- A sink in memory: the bytes written, the capacity in bytes, and the plan of the calls.
 pub record SinkValue : Type 0 where
@@ -44,18 +46,19 @@ pub record SinkValue : Type 0 where
   pub writes : Plan
 
 -- Files in memory: the names and bytes of the files, the remaining bytes of the file fetched last,
--- and the name of the last failed fetch.
+-- the name of the last failed fetch, and the calls so far.
 pub record FilesValue : Type 0 where
   pub files : List File
   pub left : List ℕ
   pub fetches : Plan
   pub reads : Plan
   pub last_open_fault : Option (List ℕ)
+  pub calls : List Event
 
 -- ---- the states of the fakes as a source, a sink and files
 
-abbrev pub source_state : SourceValue → ByteState
-source_state source = record { bytes = Some source.left; faults = source.takes.faults }
+abbrev pub source_state : SourceValue → SourceState
+source_state source = record { bytes = Some source.left; calls = source.calls }
 
 abbrev pub sink_state : SinkValue → ByteState
 sink_state sink = record { bytes = Some sink.written; faults = sink.writes.faults }
@@ -64,9 +67,7 @@ abbrev pub files_state : FilesValue → FilesState
 files_state files = record {
   map = Some files.files;
   left = Some files.left;
-  open_faults = files.fetches.faults;
-  last_open_fault = files.last_open_fault;
-  read_faults = files.reads.faults;
+  calls = files.calls;
 }
 
 -- ---- the files of `MemFiles`

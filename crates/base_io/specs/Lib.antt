@@ -3,6 +3,7 @@ pub mod Disk
 pub mod Fakes
 pub mod IoFaults
 pub mod Files
+pub mod History
 pub mod Sink
 pub mod Source
 pub mod StreamState

@@ -1,9 +1,8 @@
 //! Access to files by name.
 
-ghost use Rattle.std.specs.Prelude.{◌≡◌, [], None, is_some, IsSome, IsSomeAnd, IfSome, OnOk, OnErr};
-ghost use Rattle.std.specs.Prelude.{IsErrOf};
-ghost use Rattle.std.specs.Bool.{OnTrue, OnFalse};
-ghost use Rattle.base_io.specs.IoFaults.{HasCause};
+ghost use Rattle.std.specs.Prelude.{◌≡◌, [], ◌∷◌, ◌++◌, None, is_some, IsSome, IsSomeAnd, IfSome};
+ghost use Rattle.std.specs.Prelude.{OnOk, OnErr, IsErrOf};
+ghost use Rattle.base_io.specs.History.{fetched, error_of};
 ghost use Rattle.base_io.specs.Source.{TakesPrefix};
 ghost use Rattle.base_io.specs.StreamState.{FilesState, as_source};
 
@@ -49,11 +48,11 @@ impl From<AllocError> for OpenError {
 /// Access to files by name. `fetch` opens a file, and `take` reads the bytes of the file that was
 /// fetched last.
 pub trait Opener {
-    ghost use Rattle.base_io.specs.Files.{contents_of, OpensFile, has_failed};
+    ghost use Rattle.base_io.specs.Files.{contents_of, OpensFile};
 
     /// The state of the files. If the files are known, the state contains the map from names to
-    /// bytes and the remaining bytes of the file fetched last. The state also contains the number
-    /// of failed fetches, the name of the last failed fetch, and the number of failed takes.
+    /// bytes and the remaining bytes of the file fetched last. The state also contains the calls so
+    /// far.
     ghost state: { Self → FilesState };
 
     /// Reads the next bytes of the file fetched last, as `Source::take` does.
@@ -62,7 +61,7 @@ pub trait Opener {
             result buf.new }
         ensures frame { state self.new ≡ record (state self.old) {
           left = (state self.new).left;
-          read_faults = (state self.new).read_faults;
+          calls = (state self.new).calls;
         } };
 
     /// Opens the file with this name for later calls of `take`. If `fetch` returns an error, no
@@ -74,16 +73,11 @@ pub trait Opener {
             (IsSome (state self.old).map → (state self.new).left ≡ Some []) }
         ensures missing { IsErrOf result OpenError.Missing →
             IsSomeAnd (state self.old).map (λ all. contents_of all name.now ≡ None) }
-        ensures cause { HasCause (state self.old).open_faults (state self.new).open_faults
-            (has_failed result) }
-        ensures named { OnTrue (has_failed result)
-            ((state self.new).last_open_fault ≡ Some name.now) }
-        ensures last { OnFalse (has_failed result)
-            ((state self.new).last_open_fault ≡ (state self.old).last_open_fault) }
+        ensures called { (state self.new).calls
+            ≡ (state self.old).calls ++ fetched name.now (error_of result) ∷ [] }
         ensures known { is_some (state self.new).left ≡ is_some (state self.old).left }
         ensures frame { state self.new ≡ record (state self.old) {
           left = (state self.new).left;
-          open_faults = (state self.new).open_faults;
-          last_open_fault = (state self.new).last_open_fault;
+          calls = (state self.new).calls;
         } };
 }

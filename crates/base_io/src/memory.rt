@@ -1,12 +1,12 @@
 //! Fakes in memory: a source, a sink and files. The bytes of a fake are known. A fake fails at the
 //! calls that were chosen when the fake was created.
 
-ghost use Rattle.std.specs.Prelude.{◌≡◌, ◌⊎◌, ◌↔◌, ◌<◌, ◌≤◌, min, [], length, take, None, Some};
+ghost use Rattle.std.specs.Prelude.{◌≡◌, ◌⊎◌, ◌↔◌, ◌<◌, ◌≤◌, min, [], ◌∷◌, ◌++◌, length, take};
+ghost use Rattle.std.specs.Prelude.{None, Some};
 ghost use Rattle.std.specs.Prelude.{is_err, IsErr, IsErrOf, IsTrue, OnOk, OnErr, IfOk};
 ghost use Rattle.std.specs.Prelude.{option_copied, position, bytes_eq, string_bytes};
 ghost use Rattle.std.specs.Prelude.{slice_index_or};
 ghost use Rattle.std.specs.Bool.{OnTrue, OnFalse};
-ghost use Rattle.base_io.specs.IoFaults.{HasCause};
 ghost use Rattle.base_io.specs.Source.{TakesPrefix};
 ghost use Rattle.base_io.specs.Sink.{AppendsPrefix};
 ghost use Rattle.base_io.specs.Fakes.{FailsNext, after_call, plan_of, files_of};
@@ -15,7 +15,7 @@ ghost use Rattle.base_io.specs.StreamState.{as_source};
 ghost use Rattle.base_data.specs.model.Bytes.{AreBytes};
 
 use crate::plan::Plan;
-use crate::{Failed, OpenError, Opener, Sink, Source};
+use crate::{Failed, History, OpenError, Opener, Sink, Source};
 use base_data::model::Memory;
 use std::alloc::Global;
 use std::marker::Model;
@@ -45,6 +45,7 @@ pub struct MemSource {
     at: usize,
     chunk: usize,
     takes: Plan,
+    history: History,
 }
 
 impl Model for MemSource {
@@ -53,7 +54,12 @@ impl Model for MemSource {
 
     ghost Value = { SourceValue };
 
-    ghost view = { λ s. record { left = drop s.at s.bytes.items; chunk = s.chunk; takes = s.takes } };
+    ghost view = { λ s. record {
+      left = drop s.at s.bytes.items;
+      chunk = s.chunk;
+      takes = s.takes;
+      calls = s.history.calls;
+    } };
 
     ghost invariant = { λ s. (s.at ≤ vec_len s.bytes) × (1 ≤ s.chunk) };
 }
@@ -64,13 +70,19 @@ impl MemSource {
     pub fn new(bytes: Vec<u8>, chunk: usize, failing: Vec<u64>) -> MemSource
         requires { 1 ≤ chunk }
         ensures { result
-            ≡ record { left = bytes.items; chunk = chunk; takes = plan_of failing.items } }
+            ≡ record {
+              left = bytes.items;
+              chunk = chunk;
+              takes = plan_of failing.items;
+              calls = [];
+            } }
     {
         MemSource {
             bytes,
             at: 0,
             chunk,
             takes: Plan::new(failing),
+            history: History::new(),
         }
     }
 
@@ -101,11 +113,13 @@ impl Source for MemSource {
         let failed = self.takes.fails_next();
         self.takes.count_call(failed);
         if failed {
+            self.history.add_failed();
             return Err(Failed);
         }
         let rest = &self.bytes[self.at..];
         let n = copy_prefix(&rest[..self.chunk.min(rest.len())], buf);
         self.at += n;
+        self.history.add_moved(buf.len(), &buf[..n]);
         Ok(n)
     }
 
@@ -193,6 +207,8 @@ impl Sink for MemSink {
         self.bytes.extend_from_slice(&chunk[..n]).unwrap();
         Ok(n)
     }
+
+    fn knows_bytes(&self) {}
 }
 
 /// Files in memory with given names and bytes.
@@ -205,6 +221,7 @@ pub struct MemFiles {
     fetches: Plan,
     reads: Plan,
     last: Option<String>,
+    history: History,
 }
 
 impl Model for MemFiles {
@@ -219,6 +236,7 @@ impl Model for MemFiles {
       fetches = f.fetches;
       reads = f.reads;
       last_open_fault = option_map string_bytes f.last;
+      calls = f.history.calls;
     } };
 
     ghost invariant = { λ f. IsWithin (files_of f.pairs.items) f.fetched f.at };
@@ -255,6 +273,7 @@ impl MemFiles {
           fetches = plan_of failing.items;
           reads = plan_of reads.items;
           last_open_fault = None;
+          calls = [];
         } }
     {
         MemFiles {
@@ -265,6 +284,7 @@ impl MemFiles {
             fetches: Plan::new(failing),
             reads: Plan::new(reads),
             last: None,
+            history: History::new(),
         }
     }
 
@@ -308,6 +328,7 @@ impl MemFiles {
 impl Opener for MemFiles {
     ghost use Rattle.base_io.specs.Fakes.{files_state};
     ghost use Rattle.base_io.specs.Files.{OpensFile, contents_of, has_failed};
+    ghost use Rattle.base_io.specs.History.{fetched, error_of};
 
     ghost state = { files_state };
 
@@ -315,7 +336,11 @@ impl Opener for MemFiles {
         ensures takes { TakesPrefix (as_source (files_state self.old))
             (as_source (files_state self.new)) result buf.new }
         ensures frame { self.new
-            ≡ record self.old { left = self.new.left; reads = self.new.reads } }
+            ≡ record self.old {
+              left = self.new.left;
+              reads = self.new.reads;
+              calls = self.new.calls;
+            } }
 
         // The plan `reads` decides which takes fail. A successful take returns as many bytes as the
         // remaining bytes and the buffer allow.
@@ -326,13 +351,16 @@ impl Opener for MemFiles {
         let failed = self.reads.fails_next();
         self.reads.count_call(failed);
         if failed {
+            self.history.add_failed();
             return Err(Failed);
         }
         let Some(index) = self.fetched else {
+            self.history.add_moved(buf.len(), &[]);
             return Ok(0);
         };
         let n = copy_prefix(&bytes_at(&self.pairs, index)[self.at..], buf);
         self.at += n;
+        self.history.add_moved(buf.len(), &buf[..n]);
         Ok(n)
     }
 
@@ -341,8 +369,6 @@ impl Opener for MemFiles {
         ensures refused { OnErr result (self.new.left ≡ []) }
         ensures missing { IsErrOf result OpenError.Missing
             → contents_of self.old.files name.now ≡ None }
-        ensures cause { HasCause self.old.fetches.faults self.new.fetches.faults
-            (has_failed result) }
         ensures named { OnTrue (has_failed result) (self.new.last_open_fault ≡ Some name.now) }
         ensures last { OnFalse (has_failed result)
             (self.new.last_open_fault ≡ self.old.last_open_fault) }
@@ -350,7 +376,10 @@ impl Opener for MemFiles {
           left = self.new.left;
           fetches = self.new.fetches;
           last_open_fault = self.new.last_open_fault;
+          calls = self.new.calls;
         } }
+        ensures called { self.new.calls
+            ≡ self.old.calls ++ fetched name.now (error_of result) ∷ [] }
 
         // The plan `fetches` decides which fetches fail, unless memory runs out first.
         ensures fails { FailsNext self.old.fetches →
@@ -361,19 +390,27 @@ impl Opener for MemFiles {
         self.fetched = None;
         let Ok(kept) = String::from_str(self.alloc, name) else {
             self.fetches.count_call(false);
+            self.history.add_fetched(name, &Err(OpenError::Memory));
             return Err(OpenError::Memory);
         };
         let failed = self.fetches.fails_next();
         self.fetches.count_call(failed);
         if failed {
             self.last = Some(kept);
+            self.history.add_fetched(name, &Err(OpenError::Failed));
             return Err(OpenError::Failed);
         }
         self.at = 0;
         self.fetched = index_of(&self.pairs, name);
         match self.fetched {
-            Some(_) => Ok(()),
-            None => Err(OpenError::Missing),
+            Some(_) => {
+                self.history.add_fetched(name, &Ok(()));
+                Ok(())
+            }
+            None => {
+                self.history.add_fetched(name, &Err(OpenError::Missing));
+                Err(OpenError::Missing)
+            }
         }
     }
 }

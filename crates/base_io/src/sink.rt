@@ -1,6 +1,6 @@
 //! Sinks: destinations to which bytes are written.
 
-ghost use Rattle.std.specs.Prelude.{◌≡◌, [], IsOk, MatchResult};
+ghost use Rattle.std.specs.Prelude.{◌≡◌, [], IsOk, IsSome, MatchResult};
 ghost use Rattle.base_io.specs.Sink.{AppendsPrefix, Writes, WritesPart};
 ghost use Rattle.base_io.specs.StreamState.{ByteState, change};
 ghost use Rattle.base_io.specs.declared.sink.WriteError.TheVariants.{Fault, Memory as OutOfMemory};
@@ -45,12 +45,16 @@ impl From<AllocError> for WriteError {
 
 /// A destination to which bytes are written.
 pub trait Sink {
-    /// The bytes that were written to the sink, if they are known, and the number of failed calls.
+    /// The bytes that were written to the sink, and the number of failed calls.
     ghost state: { Self → ByteState };
 
     /// Appends a prefix of `chunk` to the sink and returns the length of the prefix in bytes.
     fn write(&mut self, chunk: &[u8]) -> Result<usize, Failed>
         ensures { AppendsPrefix (state self.old) (state self.new) result chunk.now };
+
+    /// Lemma method: the bytes that were written to the sink are known.
+    fn knows_bytes(&self)
+        ensures { IsSome (state self.now).bytes };
 }
 
 /// Writes all bytes, with as many calls of `write` as necessary. If there are no bytes, makes no

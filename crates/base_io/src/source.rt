@@ -3,17 +3,16 @@
 ghost use Rattle.std.specs.Prelude.{IfSome};
 ghost use Rattle.base_data.specs.model.Bytes.{AreBytes};
 ghost use Rattle.base_io.specs.Source.{TakesPrefix};
-ghost use Rattle.base_io.specs.StreamState.{ByteState};
+ghost use Rattle.base_io.specs.StreamState.{SourceState};
 
-/// A call to the environment failed. Each failed call increases the number of failed calls in the
-/// state, up to its maximum.
+/// A call to the environment failed.
 #[derive(Clone, Copy, Debug, PartialEq, Eq)]
 pub struct Failed;
 
 /// A source from which bytes are read.
 pub trait Source {
-    /// The remaining bytes, if they are known, and the number of failed calls.
-    ghost state: { Self → ByteState };
+    /// The remaining bytes, if they are known, and the calls so far.
+    ghost state: { Self → SourceState };
 
     /// Moves the next bytes to the start of the buffer and returns the number of moved bytes. The
     /// contents of the buffer after the moved bytes are unspecified.

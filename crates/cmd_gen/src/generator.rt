@@ -6,7 +6,6 @@ mod generated_item;
 mod generated_value;
 mod item_objects;
 mod laws;
-mod received_bytes;
 mod tally;
 mod value_line;
 

@@ -1,18 +1,17 @@
-//! The program: makes the real input, files and outputs, and calls `run` with the arguments.
+//! The program: makes the real input, files and outputs, and runs the command that the arguments
+//! request.
 //!
-//! The crate owns `main` and the few functions that `main` uses. `main` passes the arguments after
-//! the program's name to `run` of `session`, and ends with the status that `run` returns. If
-//! standard input is closed, each read of standard input fails (`MaybeClosed`).
+//! The crate owns `program`, which is everything that the program does, and `main`. If standard
+//! input is closed, each read of standard input fails (`MaybeClosed`).
 //!
-//! Promises: `arguments_after` returns the arguments in their order, without the first. `exit_code`
-//! returns the exit code whose number is the number of the status. If the arguments could not be
-//! read, `exit` writes the error line for the failure and returns the status of that line. If
-//! `exit` cannot write the whole line, `exit` returns `WriteFault`.
+//! Promises: the contract of `program` states what a run writes, the number of the exit status, and
+//! what happens if the arguments cannot be read. `program` is generic over the input, the files and
+//! the outputs.
 //!
 //! Leaves out: everything about commands (`session`) and the implementations of input, files and
-//! outputs (`base_io`). `main`, `read_arguments` and `standard_input` have no contract. That `main`
-//! passes the arguments and the real environment to `run`, and ends with the status of `run`, is
-//! read in the code and trusted.
+//! outputs (`base_io`). `main` and `standard_input` have no contract. `main` passes the arguments
+//! and the real environment to `program`, and ends with the exit code of `program`. These two facts
+//! are read in the code and trusted.
 #![tactic(auto)]
 
 ghost use Rattle.std.specs.Prelude.{◌≡◌, ◌≢◌, drop, IfOk};
@@ -21,20 +20,23 @@ ghost use Rattle.std.specs.Vec.Iter.{into_iter_items};
 ghost use Rattle.std.specs.declared.io.ErrorKind.TheVariants as kinds;
 ghost use Rattle.cli_spec.specs.declared.exit.Exit.TheVariants.{Usage as usage};
 ghost use Rattle.cli_spec.specs.declared.exit.Exit.TheVariants.{Memory as out_of_memory};
+ghost use Rattle.cli_spec.specs.declared.status.Status.{Status as StatusOf};
 ghost use Rattle.cli_spec.specs.Status.{code_of};
 ghost use Rattle.base_io.specs.StreamState.{change};
+ghost use Rattle.run_spec.specs.runs.Call.{call};
 ghost use Rattle.omarshal.specs.Ending.{Outputs};
+ghost use Rattle.omarshal.specs.Program.{EndsProgram};
 
-use base_io::{DiskFiles, MaybeClosed, Sink, StdSink, StdSource};
+use base_io::{DiskFiles, MaybeClosed, Opener, Sink, Source, StdSink, StdSource};
 use cli_errors::report::report;
 use cli_spec::status::Status;
 use session::run;
 use std::alloc::{AllocError, Global};
-use std::env;
 use std::env::Args;
 use std::io::{ErrorKind, Lock, StdinLock};
 use std::os::fd::AsFd;
 use std::process::ExitCode;
+use std::{env, io};
 
 /// Writes the error line of a run whose arguments could not be read, and returns the status of that
 /// line. If memory ran out, the line is that of `out_of_memory`, and otherwise that of `usage`. If
@@ -63,17 +65,6 @@ fn arguments_after(alloc: Global, mut args: Args) -> Result<Vec<String>, AllocEr
     Ok(arguments)
 }
 
-/// Returns the arguments after the program name.
-fn read_arguments(rt: &HostRuntime) -> Result<Vec<String>, ErrorKind> {
-    match env::args(rt) {
-        Ok(args) => match arguments_after(rt.alloc(), args) {
-            Ok(arguments) => Ok(arguments),
-            Err(_) => Err(ErrorKind::OutOfMemory),
-        },
-        Err(error) => Err(error.kind()),
-    }
-}
-
 /// Returns standard input. If the descriptor of standard input cannot be duplicated, standard input
 /// counts as closed. A file that is opened later may get the closed descriptor, and must not be
 /// read as standard input.
@@ -92,21 +83,56 @@ fn exit_code(status: Status) -> ExitCode
     ExitCode::from(status.code())
 }
 
-fn main(rt: HostRuntime) -> ExitCode {
-    let mut err = StdSink::new(rt.stderr());
-    let arguments = match read_arguments(&rt) {
-        Ok(arguments) => arguments,
-        Err(kind) => return exit_code(exit(&mut err, kind)),
+/// Drops the first argument, runs the command that the other arguments request, and returns the
+/// status. If the arguments cannot be read, writes one line to `err`.
+fn run_arguments<S: Source, O: Opener, K: Sink, E: Sink>(
+    alloc: Global,
+    args: io::Result<Args>,
+    input: &mut S,
+    files: &mut O,
+    out: &mut K,
+    err: &mut E,
+) -> Status
+    ensures { EndsProgram args (call (change (S.state input.old) (S.state input.new))
+        (change (O.state files.old) (O.state files.new))
+        (change (K.state out.old) (K.state out.new))
+        (change (E.state err.old) (E.state err.new)) result) }
+{
+    err.knows_bytes();
+    let args = match args {
+        Ok(args) => args,
+        Err(error) => return exit(err, error.kind()),
     };
+    let Ok(arguments) = arguments_after(alloc, args) else {
+        return exit(err, ErrorKind::OutOfMemory);
+    };
+    run(alloc, arguments.as_slice(), input, files, out, err)
+}
+
+/// Does everything that the program does: runs the command that the arguments request, and returns
+/// the exit code of the process.
+fn program<S: Source, O: Opener, K: Sink, E: Sink>(
+    alloc: Global,
+    args: io::Result<Args>,
+    input: &mut S,
+    files: &mut O,
+    out: &mut K,
+    err: &mut E,
+) -> ExitCode
+    ensures { (status : StatusOf) × (exit_status result ≡ code_of status)
+        × EndsProgram args (call (change (S.state input.old) (S.state input.new))
+        (change (O.state files.old) (O.state files.new))
+        (change (K.state out.old) (K.state out.new))
+        (change (E.state err.old) (E.state err.new)) status) }
+{
+    exit_code(run_arguments(alloc, args, input, files, out, err))
+}
+
+fn main(rt: HostRuntime) -> ExitCode {
     let mut input = StdSource::new(standard_input(&rt));
-    let mut out = StdSink::new(rt.stdout());
     let mut files = DiskFiles::new(rt.alloc(), &rt);
-    exit_code(run(
-        rt.alloc(),
-        arguments.as_slice(),
-        &mut input,
-        &mut files,
-        &mut out,
-        &mut err,
-    ))
+    let mut out = StdSink::new(rt.stdout());
+    let mut err = StdSink::new(rt.stderr());
+    let args = env::args(&rt);
+    program(rt.alloc(), args, &mut input, &mut files, &mut out, &mut err)
 }

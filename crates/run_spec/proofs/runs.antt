@@ -3,6 +3,7 @@ pub mod RunLineLemmas
 pub mod StreamLemmas
 pub mod RunValueLemmas
 pub mod RunWriteLemmas
+pub mod CallLemmas
 pub mod RunTakeLemmas
 pub mod RunOnceLemmas
 pub mod HoldLemmas
@@ -10,7 +11,9 @@ pub mod ExampleLemmas
 pub mod RunFileLemmas
 pub mod RunSettledLemmas
 pub mod RunFaultLemmas
+pub mod FailedLemmas
 pub mod OutcomeLemmas
+pub mod RunAnswerLemmas
 pub mod RunAccountLemmas
 pub mod RunKnownLemmas
 pub mod IfLemmas

@@ -6,6 +6,7 @@ pub mod StreamLaws
 pub mod Commands
 pub mod Lawful
 pub mod Account
+pub mod Answered
 pub mod RunSpec
 pub mod RunCauses
 pub mod CommandLaws

@@ -28,7 +28,7 @@ fn gather_file<O: Opener>(alloc: Global, files: &mut O) -> Result<Gathered, Memo
         (change (as_source (O.state files.old)) (as_source (O.state files.new)))) }
     ensures frame { O.state files.new ≡ record (O.state files.old) {
       left = (O.state files.new).left;
-      read_faults = (O.state files.new).read_faults;
+      calls = (O.state files.new).calls;
     } }
 {
     let mut bytes = Vec::new(alloc);

@@ -7,7 +7,7 @@ use Rattle.cli_spec.specs.declared.read_options.ReadOptions.{ReadOptions}
 use Rattle.cli_spec.specs.declared.style.Style.{Style}
 use Rattle.cli_spec.specs.declared.exit.Exit.{Exit}
 use Rattle.cli_spec.specs.declared.exit.Exit.TheVariants.{BadPath as bad_path, Memory as out_of_memory}
-use Rattle.base_io.specs.StreamState.{ByteState, FilesState, Change, change}
+use Rattle.base_io.specs.StreamState.{ByteState, SourceState, FilesState, Change, change}
 use Rattle.text_path.specs.ParserAnswer.{IsAnswer, UnlessMemory}
 use Rattle.text_path.specs.ScriptAnswer.{AreEdits, AreInTime}
 use Rattle.text_path.specs.declared.edits.Script.{Script}
@@ -45,7 +45,7 @@ use Rattle.run_loop.proofs.work.ExitLemmas.{nothing_found, none_fetched as nothi
 -- ---- the values
 
 -- The command on values performs the operation `value_task` on the values of the input.
-abbrev DoesValueTask : ValueTask → SkippedBytes → Option ℕ → Change ByteState → Change ByteState → Change ByteState → Status → Type 0
+abbrev DoesValueTask : ValueTask → SkippedBytes → Option ℕ → Change SourceState → Change ByteState → Change ByteState → Status → Type 0
 DoesValueTask value_task over only = HasAccount on_values_after (over, (only, task_of value_task))
 
 -- ---- the arguments
@@ -62,7 +62,7 @@ none_fetched arguments = nothing_fetched on_values_after arguments 2 values_in_t
 -- If PATH is not a path, or memory ran out, then the run has an `Account`.
 pub path_account : (arguments : List (List ℕ)) (name type text : List ℕ) (style : Style) (lines : Bool) (reading : ReadOptions) → Asks arguments (get name type text style lines reading)
     → (fault : PathFault) → UnlessMemory (λ f. IsAnswer text (Err f)) fault → (exit : Exit) → IsPathExit fault exit
-    → (input out : ByteState) (files : FilesState) (err : Change ByteState) (status : Status)
+    → (input : SourceState) (out : ByteState) (files : FilesState) (err : Change ByteState) (status : Status)
     → Reports exit err status → Account on_values_after arguments (call (change input input) (change files files) (change out out) err status)
 path_account arguments name type text style lines reading asks fault refused exit is input out files err status r =
     exit_account on_values_after arguments nothing_found input out (change files files) (none_fetched arguments files) err status exit (why is) r where
@@ -100,13 +100,13 @@ module _ (arguments : List (List ℕ)) (name : List ℕ) (type : AskedType) (que
   gives_err exit (inr memory) = inr memory
 
   -- If FILE and TYPE give no type, then the run has an `Account`.
-  pub type_account : (exit : Exit) → GivesType name type found (Err exit) → (input out : ByteState) (err : Change ByteState) (status : Status)
+  pub type_account : (exit : Exit) → GivesType name type found (Err exit) → (input : SourceState) (out : ByteState) (err : Change ByteState) (status : Status)
       → Reports exit err status → Account on_values_after arguments (call (change input input) files (change out out) err status)
   type_account exit gives input out err status r =
       exit_account on_values_after arguments all_found input out files fetches err status exit (gives_err exit gives) r
 
   -- If the report on the values at the type is written, then the run has an `Account`.
-  pub known_account : (t : Bor Prepared) → GivesType name type found (Ok t.now) → (input out err : Change ByteState) (status : Status)
+  pub known_account : (t : Bor Prepared) → GivesType name type found (Ok t.now) → (input : Change SourceState) (out err : Change ByteState) (status : Status)
       → DoesValueTask (value_tasks.Print (printings.Report t query) reading.limit) (passed_in reading) reading.only input out err status → Account on_values_after arguments (call input files out err status)
   known_account t gives input out err status does = does arguments all_found files fetches (prepared_ok t gives.0)
 
@@ -132,7 +132,7 @@ module _ (arguments : List (List ℕ)) (file type script : List ℕ) (compat lin
   file_gives exit (inl reads) = inl (Ok (edit file type script compat lines decimal reading), asks, (Err exit, (Err exit, reads, refl), refl))
   file_gives exit (inr memory) = inr memory
 
-  pub file_account : (exit : Exit) → GivesType file (asked_with type lines decimal) found (Err exit) → (input out : ByteState) (err : Change ByteState) (status : Status)
+  pub file_account : (exit : Exit) → GivesType file (asked_with type lines decimal) found (Err exit) → (input : SourceState) (out : ByteState) (err : Change ByteState) (status : Status)
       → Reports exit err status → Account on_values_after arguments (call (change input input) files (change out out) err status)
   file_account exit gives input out err status r = exit_account on_values_after arguments file_found input out files file_fetches err status exit (file_gives exit gives) r
 
@@ -180,13 +180,13 @@ module _ (arguments : List (List ℕ)) (r : Bor Prepared) (script : List ℕ) (c
       inl (Ok request, asks.asks, (Err exit, (Ok (type_over r.now), asks.gives.0, (Err exit, known, refl)), refl))
   script_gives exit (inr memory) = inr memory
 
-  pub script_account : (exit : Exit) → GivesScript r.now.lines r.now.decimal script found (Err exit) → (input out : ByteState) (err : Change ByteState) (status : Status)
+  pub script_account : (exit : Exit) → GivesScript r.now.lines r.now.decimal script found (Err exit) → (input : SourceState) (out : ByteState) (err : Change ByteState) (status : Status)
       → Reports exit err status → Account on_values_after arguments (call (change input input) (change a c) (change out out) err status)
   script_account exit gives input out err status reports =
       exit_account on_values_after arguments both_found input out (change a c) both_fetched err status exit (script_gives exit gives) reports
 
   -- If the values are edited, then the run has an `Account`.
-  pub edits_account : (s : Bor Script) → GivesScript r.now.lines r.now.decimal script found (Ok s.now) → (input out err : Change ByteState) (status : Status)
+  pub edits_account : (s : Bor Script) → GivesScript r.now.lines r.now.decimal script found (Ok s.now) → (input : Change SourceState) (out err : Change ByteState) (status : Status)
       → DoesValueTask (value_tasks.Edit (record { requested = r; script = s; compat = compat }) reading.limit) (record { bytes = reading.skip; copied = true }) reading.only input out err status → Account on_values_after arguments (call input (change a c) out err status)
   edits_account s gives input out err status does =
       let value_task = value_tasks.Edit (record { requested = r; script = s; compat = compat }) reading.limit in
@@ -194,7 +194,7 @@ module _ (arguments : List (List ℕ)) (r : Bor Prepared) (script : List ℕ) (c
       does arguments both_found (change a c) both_fetched
       (Ok request, asks.asks, (refl, (refl, (Ok (task_of value_task).work, (Ok (type_over r.now), asks.gives.0, (Ok s.now.lines, read, refl)), refl))))
 
-module _ (arguments : List (List ℕ)) (reading : ReadOptions) (files : FilesState) (input out err : Change ByteState) (status : Status) where
+module _ (arguments : List (List ℕ)) (reading : ReadOptions) (files : FilesState) (input : Change SourceState) (out err : Change ByteState) (status : Status) where
   -- If the untyped dumps of the values are written, then the run has an `Account`.
   pub dump_account : Asks arguments (dump reading) → DoesValueTask (value_tasks.Print printings.Dump reading.limit) (passed_in reading) reading.only input out err status → Account on_values_after arguments (call input (change files files) out err status)
   dump_account asks does = does arguments nothing_found (change files files) (none_fetched arguments files) (Ok (dump reading), asks, (refl, (refl, (Ok dumps, refl, refl))))

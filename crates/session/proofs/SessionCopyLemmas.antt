@@ -24,9 +24,9 @@ use Rattle.run_types.specs.Language.{TypeOver, declared_types, bytes_for, IsByte
 use Rattle.run_types.proofs.DoneLemmas.{as_it_came, plain_done}
 use Rattle.run_types.proofs.RunTypesGivenLemmas.{given_each}
 use Rattle.run_spec.specs.runs.LawfulLanguage.{IsGiven}
-use Rattle.run_spec.specs.runs.CommandLaws.{HaveOneOutcome}
+use Rattle.run_spec.specs.runs.CommandLaws.{HaveOneOutcome, Follow}
 use Rattle.run_spec.specs.runs.Commands.{Given, Answers, Outcome}
-use Rattle.run_spec.specs.runs.RunSpec.{RunSpec, known_files}
+use Rattle.run_spec.specs.runs.RunSpec.{RunSpec, Headline, known_files}
 use Rattle.run_spec.proofs.runs.LengthLemmas.{encoded_some}
 use Rattle.run_spec.proofs.runs.StreamLemmas.{encode_bytes}
 use Rattle.run_spec.specs.value_commands.Tasks.{items_of, commands}
@@ -108,7 +108,9 @@ module _ (t : TypeOver) (compat : Bool) (limit : ℕ) where
           },
         )
 
-module _ (once : HaveOneOutcome (commands declared_types)) (arguments : List (List ℕ)) (call : Call)
+module _ (once : HaveOneOutcome (commands declared_types))
+    (headline : Follow (commands declared_types) (Headline (commands declared_types)))
+    (arguments : List (List ℕ)) (call : Call)
     (reports : ReportsBytes call.input) where
   its_outcome : (input : List ℕ) (files : List File) → AreBytes input → (is : IsLeftAlone arguments input files)
       → Outcome (commands declared_types) arguments (contents_of files) input (output_all is.trees)
@@ -136,7 +138,7 @@ module _ (once : HaveOneOutcome (commands declared_types)) (arguments : List (Li
       let request = edit is.file is.type is.script is.compat is.lines is.decimal (all_under is.limit) in
       let p = values_at_once part arguments call request is.asks tt refl refl all in
       let are_bytes : AreBytes input = rw honest.ok_read.input_known at reports in
-      let o = p.headline input files honest some in
+      let o = headline arguments call reports p input files honest some in
       let given : Given = record { files = known_files files; input = whole input } in
       let same = once arguments given are_bytes o.all (output_all is.trees) o.outcome (its_outcome input files are_bytes is) in
       record {

@@ -4,7 +4,7 @@ use Rattle.cli_spec.specs.declared.status.Status.{Status}
 use Rattle.cli_spec.specs.Outcome.{Found, asked_with, own, build, Asks}
 use Rattle.cli_spec.specs.declared.exit.Exit.{Exit}
 use Rattle.cli_spec.specs.declared.exit.Exit.TheVariants.{Memory as out_of_memory}
-use Rattle.base_io.specs.StreamState.{ByteState, FilesState, Change, change}
+use Rattle.base_io.specs.StreamState.{ByteState, SourceState, FilesState, Change, change}
 use Rattle.cli_errors.specs.Exits.{Reports}
 use Rattle.run_spec.specs.runs.Account.{IsWanted, FetchesIn, FetchesFor, Account}
 use Rattle.run_spec.specs.runs.Call.{call}
@@ -54,7 +54,7 @@ module _ (arguments : List (List ℕ)) (file type : List ℕ) (lines decimal : B
 
   -- There is no type.
   pub no_type_account : (exit : Exit) → GivesType file (asked_with type lines decimal) found (Err exit)
-      → (input out : ByteState) (err : Change ByteState) (status : Status)
+      → (input : SourceState) (out : ByteState) (err : Change ByteState) (status : Status)
       → Reports exit err status
       → Account on_texts arguments (call (change input input) files (change out out) err status)
   no_type_account exit gives input out err status r =
@@ -63,7 +63,7 @@ module _ (arguments : List (List ℕ)) (file type : List ℕ) (lines decimal : B
 
   -- The bytes of the values at the type are written.
   pub texts_account : (r : Prepared) → GivesType file (asked_with type lines decimal) found (Ok r)
-      → (input out err : Change ByteState) (status : Status)
+      → (input : Change SourceState) (out err : Change ByteState) (status : Status)
       → HasAccount on_texts (type_over r) input out err status
       → Account on_texts arguments (call input files out err status)
   texts_account r gives input out err status has =

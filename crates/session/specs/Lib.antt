@@ -9,3 +9,4 @@ pub mod CheckProgress
 pub mod AskedOutput
 pub mod OutputOfValue
 pub mod All
+pub mod Run

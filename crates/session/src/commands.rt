@@ -9,6 +9,7 @@ ghost use Rattle.opt_skip_only.specs.only_spec.OnlyTables.{only_command_tables};
 ghost use Rattle.run_spec.specs.runs.RunCauses.{EnvironmentCauses};
 ghost use Rattle.run_spec.specs.runs.CommandLaws.{HaveOneOutcome, ArePromised, Follow};
 ghost use Rattle.run_spec.specs.runs.Lawful.{AreLawful, AreInTurns};
+ghost use Rattle.run_spec.specs.runs.RunSpec.{Headline};
 ghost use Rattle.run_types.specs.Language.{declared_types};
 ghost use Rattle.cli_spec.specs.CommandLine.{searched_by};
 ghost use Rattle.session.specs.All.{on_values, on_values_after, on_texts, on_made};
@@ -201,6 +202,7 @@ pub fn all_commands_are_lawful()
 /// statuses the environment can cause.
 pub fn all_commands_keep_run_spec()
     ensures account { ArePromised all_commands }
+    ensures headline { Follow all_commands (Headline all_commands) }
     ensures environment { Follow all_commands (EnvironmentCauses all_commands) }
 {
     all_commands_are_lawful();
@@ -224,6 +226,16 @@ pub fn values_have_one_outcome()
 {
     declared_types_are_lawful();
     commands_answer_once::<DeclaredTypes>();
+}
+
+/// Proves that a fault-free run by a command on values, without `--skip` and `--only`, has the
+/// outcome of the known files and the known input.
+pub fn values_have_headline()
+    ensures { Follow on_values (Headline on_values) }
+{
+    declared_types_are_lawful();
+    commands_are_lawful::<DeclaredTypes>();
+    run_spec_of_commands::<EachValue>();
 }
 
 /// Proves that each command set is a part of the whole set, for arguments that request only

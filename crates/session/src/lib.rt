@@ -6,15 +6,16 @@
 //! the bytes are first checked without a heap while they arrive. If the check without a heap is
 //! inconclusive, the value is read into a heap.
 //!
-//! Promises: `run` has nine clauses. `run_spec`: the call satisfies `RunSpec` for all commands: an
-//! account of what was read and written, the outcome of an honest call, the status, and failed
-//! calls. `environment`: what the statuses of the environment mean. `causes`: for arguments that
-//! ask for a command on values, each status has its cause by exact tables. `causes_of_texts`,
-//! `causes_of_certificates`, `causes_of_sections`, `causes_of_positions` and `causes_of_made`: each
-//! status of a command of another kind has its cause by exact tables. `canonical`: if the input is
-//! canonical and its values have the type, an honest call of `edit` with an empty script outputs
-//! the input unchanged (`LeavesCanonical`). `all_commands_are_lawful`: all commands together are
-//! lawful. `all_commands_have_one_outcome`: arguments, files and input have one outcome.
+//! Promises: the contract of `run` is `IsRun`. `run_spec`: the call satisfies `RunSpec` for all
+//! commands: an account of what was read and written, the whole answer to what was read, and failed
+//! calls. `headline`: an honest call has the outcome of the known contents. `environment`: what the
+//! statuses of the environment mean. `causes`: for arguments that ask for a command on values, each
+//! status has its cause by exact tables. `causes_of_texts`, `causes_of_certificates`,
+//! `causes_of_sections`, `causes_of_positions` and `causes_of_made`: each status of a command of
+//! another kind has its cause by exact tables. `canonical`: if the input is canonical and its
+//! values have the type, an honest call of `edit` with an empty script outputs the input unchanged
+//! (`LeavesCanonical`). `all_commands_are_lawful`: all commands together are lawful.
+//! `all_commands_have_one_outcome`: arguments, files and input have one outcome.
 //!
 //! Leaves out: the real input, files and outputs (`omarshal`), and the loop (`run_loop`). The
 //! commands `build`, `gen`, `verify`, `check --cert` and `scan` are in `cmd_build`, `cmd_gen`,
@@ -35,6 +36,7 @@ mod value_output;
 pub use commands::{
     all_commands_are_lawful, all_commands_have_one_outcome, all_commands_have_parts,
     all_commands_keep_run_spec, statuses_of_made_have_causes, statuses_of_positions_have_causes,
-    statuses_of_texts_have_causes, statuses_of_values_have_causes, values_have_one_outcome,
+    statuses_of_texts_have_causes, statuses_of_values_have_causes, values_have_headline,
+    values_have_one_outcome,
 };
 pub use top::run;

@@ -4,29 +4,11 @@ ghost use Rattle.std.specs.Prelude.{List, ℕ};
 ghost use Rattle.cli_spec.specs.Outcome.{Asks, asked_type, get as get_of, edit as edit_of};
 ghost use Rattle.base_io.specs.StreamState.{FilesState, Change, change};
 ghost use Rattle.run_spec.specs.runs.Call.{call};
-ghost use Rattle.session.specs.Copied.{LeavesCanonical};
 ghost use Rattle.session.specs.AskedOutput.{AsksToPrint, AsksForLines};
-ghost use Rattle.run_types.specs.Language.{declared_types};
 ghost use Rattle.run_spec.specs.runs.Account.{Account};
-ghost use Rattle.run_spec.specs.runs.RunCauses.{EnvironmentCauses};
-ghost use Rattle.run_spec.specs.runs.RunSpec.{RunSpec};
-ghost use Rattle.run_spec.specs.exit_statuses.Tables.{values_tables};
-ghost use Rattle.run_spec.specs.exit_causes.Causes.{Causes as CausesBy};
-ghost use Rattle.cmd_build.specs.spec.ExitStatuses.{texts_tables};
-ghost use Rattle.cmd_build.specs.command.InputLines.{declared_texts};
-ghost use Rattle.cmd_gen.specs.spec.ExitStatuses.{GenCauses as CausesOfMade};
-ghost use Rattle.cmd_verify.specs.spec.ExitStatuses.{certificate_tables};
-ghost use Rattle.cmd_verify.specs.command.VerifiedSections.{reads_sections, declared_sections};
-ghost use Rattle.cmd_certify.specs.spec.ExitStatuses.{certifying_tables};
-ghost use Rattle.cmd_certify.specs.command.CertifiedOutput.{declared_certificates};
-ghost use Rattle.cmd_scan.specs.spec.ExitStatuses.{searching_tables};
 ghost use Rattle.opt_skip_only.specs.skip.SkipCommand.{passed_of};
-ghost use Rattle.opt_skip_only.specs.skip_spec.SkipTables.{skipping_tables};
-ghost use Rattle.opt_skip_only.specs.only_spec.OnlyTables.{only_command_tables};
-ghost use Rattle.session.specs.All.{on_values, on_values_after, on_texts, on_certificates_after};
-ghost use Rattle.session.specs.All.{on_certified_after, on_positions, all_commands, IsOfValues};
-ghost use Rattle.session.specs.All.{IsOfTexts, IsOfMade, IsOfCertificates, IsOfSections};
-ghost use Rattle.session.specs.All.{IsOfPositions, AskOnly};
+ghost use Rattle.session.specs.All.{on_values_after, all_commands};
+ghost use Rattle.session.specs.Run.{IsRun};
 ghost use Rattle.run_loop.specs.work.Reported.{HasAccount};
 ghost use Rattle.session.specs.Reporting.{AsksToReport, AsksToEdit};
 ghost use Rattle.text_path.specs.ScriptAnswer.{AreInTime};
@@ -39,7 +21,8 @@ use crate::commands::{
     Scans, all_commands_have_parts, all_commands_keep_run_spec,
     statuses_of_certificates_have_causes, statuses_of_made_have_causes,
     statuses_of_positions_have_causes, statuses_of_sections_have_causes,
-    statuses_of_texts_have_causes, statuses_of_values_have_causes, values_have_one_outcome,
+    statuses_of_texts_have_causes, statuses_of_values_have_causes, values_have_headline,
+    values_have_one_outcome,
 };
 use crate::edit_lines::Edits;
 use crate::input_values::ValueTask;
@@ -481,65 +464,19 @@ pub fn run<S: Source, O: Opener, K: Sink, E: Sink>(
     out: &mut K,
     err: &mut E,
 ) -> Status
-    ensures run_spec { RunSpec all_commands (texts arguments.now)
-        (call (change (S.state input.old) (S.state input.new))
-        (change (O.state files.old) (O.state files.new))
-        (change (K.state out.old) (K.state out.new))
-        (change (E.state err.old) (E.state err.new)) result) }
-    ensures environment { EnvironmentCauses all_commands (texts arguments.now)
-        (call (change (S.state input.old) (S.state input.new))
-        (change (O.state files.old) (O.state files.new))
-        (change (K.state out.old) (K.state out.new))
-        (change (E.state err.old) (E.state err.new)) result) }
-    ensures causes { AskOnly IsOfValues (texts arguments.now)
-        → CausesBy on_values_after
-        (skipping_tables (only_command_tables on_values (values_tables declared_types)))
-        (texts arguments.now) (call (change (S.state input.old) (S.state input.new))
-        (change (O.state files.old) (O.state files.new))
-        (change (K.state out.old) (K.state out.new))
-        (change (E.state err.old) (E.state err.new)) result) }
-    ensures causes_of_texts { AskOnly IsOfTexts (texts arguments.now)
-        → CausesBy on_texts (texts_tables declared_types declared_texts) (texts arguments.now)
-        (call (change (S.state input.old) (S.state input.new))
-        (change (O.state files.old) (O.state files.new))
-        (change (K.state out.old) (K.state out.new))
-        (change (E.state err.old) (E.state err.new)) result) }
-    ensures causes_of_certificates { AskOnly IsOfCertificates (texts arguments.now)
-        → CausesBy on_certificates_after
-        (skipping_tables (certificate_tables declared_types reads_sections declared_sections))
-        (texts arguments.now) (call (change (S.state input.old) (S.state input.new))
-        (change (O.state files.old) (O.state files.new))
-        (change (K.state out.old) (K.state out.new))
-        (change (E.state err.old) (E.state err.new)) result) }
-    ensures causes_of_sections { AskOnly IsOfSections (texts arguments.now)
-        → CausesBy on_certified_after
-        (skipping_tables (certifying_tables declared_types declared_certificates))
-        (texts arguments.now) (call (change (S.state input.old) (S.state input.new))
-        (change (O.state files.old) (O.state files.new))
-        (change (K.state out.old) (K.state out.new))
-        (change (E.state err.old) (E.state err.new)) result) }
-    ensures causes_of_positions { AskOnly IsOfPositions (texts arguments.now)
-        → CausesBy on_positions searching_tables (texts arguments.now)
-        (call (change (S.state input.old) (S.state input.new))
-        (change (O.state files.old) (O.state files.new))
-        (change (K.state out.old) (K.state out.new))
-        (change (E.state err.old) (E.state err.new)) result) }
-    ensures causes_of_made { AskOnly IsOfMade (texts arguments.now)
-        → CausesOfMade declared_types (texts arguments.now)
-        (call (change (S.state input.old) (S.state input.new))
-        (change (O.state files.old) (O.state files.new))
-        (change (K.state out.old) (K.state out.new))
-        (change (E.state err.old) (E.state err.new)) result) }
-    ensures canonical { LeavesCanonical (texts arguments.now)
+    ensures { IsRun (texts arguments.now)
         (call (change (S.state input.old) (S.state input.new))
         (change (O.state files.old) (O.state files.new))
         (change (K.state out.old) (K.state out.new))
         (change (E.state err.old) (E.state err.new)) result) }
 {
     input.reports_bytes();
+    out.knows_bytes();
+    err.knows_bytes();
     all_commands_keep_run_spec();
     all_commands_have_parts();
     values_have_one_outcome();
+    values_have_headline();
     statuses_of_values_have_causes();
     statuses_of_texts_have_causes();
     statuses_of_certificates_have_causes();

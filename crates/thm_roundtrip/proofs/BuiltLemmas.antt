@@ -19,7 +19,9 @@ use Rattle.run_spec.specs.runs.RunCauses.{AreAsKnown}
 use Rattle.run_spec.specs.runs.CommandLaws.{HaveOneOutcome, Follow}
 use Rattle.run_spec.specs.runs.Commands.{Item, text, Given, Split, AllPrint, Answers, Outcome}
 use Rattle.run_spec.specs.runs.Given.{ReportsBytes, TakesFrom, IsFoundOf}
+use Rattle.run_spec.specs.runs.Lawful.{AreLawful}
 use Rattle.run_spec.specs.runs.LawfulLanguage.{IsGiven}
+use Rattle.run_spec.proofs.runs.RunAnswerLemmas.{headline}
 use Rattle.run_spec.proofs.runs.EndedLemmas.{HasEnded, has_ended, held, taken_whole, write_once}
 use Rattle.run_spec.specs.runs.RunSpec.{RunSpec, known_files}
 use Rattle.run_spec.specs.value_commands.Tasks.{commands}
@@ -104,6 +106,7 @@ have_at t lines decimal [] h = tt
 have_at t lines decimal (tree ∷ trees) h = (h.0, have_at t lines decimal trees h.1)
 
 module _ (known : Follow (commands declared_types) (AreAsKnown (commands declared_types)))
+    (lawful : AreLawful (building declared_types declared_texts))
     (once : HaveOneOutcome (building declared_types declared_texts))
     (read_back : DeclaredTextsAreReadBack)
     (sound : (t : TypeOver) → IsGiven declared_types t → IsSoundOver t) where
@@ -213,7 +216,7 @@ module _ (known : Follow (commands declared_types) (AreAsKnown (commands declare
         → (builds : BuildsValues later_arguments later file type contents shown)
         → (shows.decimal ≡ true → builds.decimal ≡ true) → WritesCanonical limit input later
     writes_canonical later_arguments later later_reports later_run_spec builds reads =
-        let o = later_run_spec.headline shown builds.files builds.honest builds.suffices in
+        let o = headline (building declared_types declared_texts) lawful later_arguments later later_run_spec.answered shown builds.files builds.honest builds.suffices in
         let are_bytes : AreBytes shown = rw builds.honest.ok_read.input_known at later_reports in
         let given : Given = record { files = known_files builds.files; input = whole shown } in
         let same : o.all ≡ output_all v.trees =

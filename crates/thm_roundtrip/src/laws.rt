@@ -8,7 +8,7 @@ ghost use Rattle.thm_roundtrip.specs.Shown.{ShownTextsAreBuilt};
 ghost use Rattle.cmd_build.specs.spec.InputTexts.{building};
 
 use cmd_build::command::laws::{DeclaredTexts, declared_texts_are_read_once};
-use cmd_build::spec::laws::building_answers_once;
+use cmd_build::spec::laws::{building_answers_once, building_is_lawful};
 use run_spec::value_commands::laws::commands_keep_run_spec;
 use run_types::laws::{DeclaredTypes, declared_types_are_lawful};
 use session::all_commands_have_parts;
@@ -28,6 +28,7 @@ pub fn shown_texts_are_built()
     declared_texts_are_read_once();
     commands_keep_run_spec::<DeclaredTypes>();
     building_answers_once::<DeclaredTexts>();
+    building_is_lawful::<DeclaredTexts>();
 }
 
 /// Suppose two calls of the program satisfy the specification of all commands. If the second call

@@ -17,8 +17,8 @@ module _ {D T E : Type 0} (language : Language D T E) (TextOf : T → List ℕ �
   not_four : Caused Value → ⊥
   not_four (inl (none, is)) = cc is
   not_four (inr (inl b)) = b.bar
-  not_four (inr (inr (found, files, type, prepared, input, is, (are_bytes, inl h)))) = h.breaks
-  not_four (inr (inr (found, files, type, prepared, input, is, (are_bytes, inr h)))) = by h.ends where
+  not_four (inr (inr (found, files, type, prepared, input, is, begins, (are_bytes, inl h)))) = h.breaks
+  not_four (inr (inr (found, files, type, prepared, input, is, begins, (are_bytes, inr h)))) = by h.ends where
     by : (IsFine TextOf type h.last × (Value ≡ AllOk)) ⊎ ⊥ → ⊥
     by (inl (fine, e)) = cc e
     by (inr never) = never
@@ -26,8 +26,8 @@ module _ {D T E : Type 0} (language : Language D T E) (TextOf : T → List ℕ �
   not_eleven : Caused Compat → ⊥
   not_eleven (inl (none, is)) = cc is
   not_eleven (inr (inl b)) = b.bar
-  not_eleven (inr (inr (found, files, type, prepared, input, is, (are_bytes, inl h)))) = h.breaks
-  not_eleven (inr (inr (found, files, type, prepared, input, is, (are_bytes, inr h)))) = by h.ends where
+  not_eleven (inr (inr (found, files, type, prepared, input, is, begins, (are_bytes, inl h)))) = h.breaks
+  not_eleven (inr (inr (found, files, type, prepared, input, is, begins, (are_bytes, inr h)))) = by h.ends where
     by : (IsFine TextOf type h.last × (Compat ≡ AllOk)) ⊎ ⊥ → ⊥
     by (inl (fine, e)) = cc e
     by (inr never) = never

@@ -6,7 +6,7 @@ use Rattle.cli_spec.specs.CommandLine.{certify}
 use Rattle.cli_spec.specs.Outcome.{Found, Request, asked_type, own, Asks}
 use Rattle.cli_spec.specs.declared.exit.Exit.{Exit}
 use Rattle.cli_spec.specs.declared.exit.Exit.TheVariants.{Memory as out_of_memory}
-use Rattle.base_io.specs.StreamState.{ByteState, FilesState, Change, change}
+use Rattle.base_io.specs.StreamState.{ByteState, SourceState, FilesState, Change, change}
 use Rattle.cli_errors.specs.Exits.{Reports}
 use Rattle.run_spec.specs.runs.Account.{IsWanted, FetchesIn, FetchesFor, Account}
 use Rattle.run_spec.specs.runs.Call.{call}
@@ -69,7 +69,7 @@ module _ (arguments : List (List ℕ)) (file type : List ℕ) (lines : Bool) (re
 
   -- Case: FILE and TYPE give no type, and the exit reason is reported.
   pub no_type_account :
-      (exit : Exit) → GivesType file (asked_type type lines) found (Err exit) → (input out : ByteState)
+      (exit : Exit) → GivesType file (asked_type type lines) found (Err exit) → (input : SourceState) (out : ByteState)
       (err : Change ByteState) (status : Status) → Reports exit err status
       → Account on_certified_after arguments (call (change input input) files (change out out) err status)
   no_type_account exit gives input out err status r =
@@ -79,7 +79,7 @@ module _ (arguments : List (List ℕ)) (file type : List ℕ) (lines : Bool) (re
   -- Case: FILE and TYPE give a type, and the values are certified.
   pub values_account :
       (r : Prepared) → GivesType file (asked_type type lines) found (Ok r)
-      → (input out err : Change ByteState) (status : Status)
+      → (input : Change SourceState) (out err : Change ByteState) (status : Status)
       → HasAccount on_certified_after (certified_after r reading) input out err status
       → Account on_certified_after arguments (call input files out err status)
   values_account r gives input out err status has =
@@ -88,7 +88,7 @@ module _ (arguments : List (List ℕ)) (file type : List ℕ) (lines : Bool) (re
 
 -- Case: memory ran out before the input was read.
 pub memory_account :
-    (a : SkippedBytes × Certification TypeOver) (input out : ByteState) (err : Change ByteState)
+    (a : SkippedBytes × Certification TypeOver) (input : SourceState) (out : ByteState) (err : Change ByteState)
     (status : Status) → Reports out_of_memory err status
     → HasAccount on_certified_after a (change input input) (change out out) err status
 memory_account a input out err status r = λ arguments found files fetches prepared.
@@ -97,7 +97,7 @@ memory_account a input out err status r = λ arguments found files fetches prepa
 
 -- If the skipped bytes and the tasks are equal, then `Account` holds for both tasks.
 pub account_same :
-    (over other : SkippedBytes) (a b : Certification TypeOver) (input out err : Change ByteState)
+    (over other : SkippedBytes) (a b : Certification TypeOver) (input : Change SourceState) (out err : Change ByteState)
     (status : Status) → over ≡ other → a ≡ b
     → HasAccount on_certified_after (over, a) input out err status
     → HasAccount on_certified_after (other, b) input out err status

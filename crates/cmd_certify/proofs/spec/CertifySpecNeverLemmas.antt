@@ -18,26 +18,26 @@ module _ {D T E : Type 0} (language : Language D T E) (SectionOf : OutputsSectio
   not_five : Caused Script → ⊥
   not_five (inl (none, is)) = cc is
   not_five (inr (inl b)) = b.bar
-  not_five (inr (inr (found, files, a, prepared, input, is, (are_bytes, inl h)))) = cc h.0
-  not_five (inr (inr (found, files, a, prepared, input, is, (are_bytes, inr (inl h))))) =
+  not_five (inr (inr (found, files, a, prepared, input, is, begins, (are_bytes, inl h)))) = cc h.0
+  not_five (inr (inr (found, files, a, prepared, input, is, begins, (are_bytes, inr (inl h))))) =
       h.finishes
-  not_five (inr (inr (found, files, a, prepared, input, is, (are_bytes, inr (inr h))))) = cc h.0
+  not_five (inr (inr (found, files, a, prepared, input, is, begins, (are_bytes, inr (inr h))))) = cc h.0
 
   not_eleven : Caused Compat → ⊥
   not_eleven (inl (none, is)) = cc is
   not_eleven (inr (inl b)) = b.bar
-  not_eleven (inr (inr (found, files, a, prepared, input, is, (are_bytes, inl h)))) = cc h.0
-  not_eleven (inr (inr (found, files, a, prepared, input, is, (are_bytes, inr (inl h))))) =
+  not_eleven (inr (inr (found, files, a, prepared, input, is, begins, (are_bytes, inl h)))) = cc h.0
+  not_eleven (inr (inr (found, files, a, prepared, input, is, begins, (are_bytes, inr (inl h))))) =
       h.finishes
-  not_eleven (inr (inr (found, files, a, prepared, input, is, (are_bytes, inr (inr h))))) = cc h.0
+  not_eleven (inr (inr (found, files, a, prepared, input, is, begins, (are_bytes, inr (inr h))))) = cc h.0
 
   not_twelve : Caused Certificate → ⊥
   not_twelve (inl (none, is)) = cc is
   not_twelve (inr (inl b)) = b.bar
-  not_twelve (inr (inr (found, files, a, prepared, input, is, (are_bytes, inl h)))) = cc h.0
-  not_twelve (inr (inr (found, files, a, prepared, input, is, (are_bytes, inr (inl h))))) =
+  not_twelve (inr (inr (found, files, a, prepared, input, is, begins, (are_bytes, inl h)))) = cc h.0
+  not_twelve (inr (inr (found, files, a, prepared, input, is, begins, (are_bytes, inr (inl h))))) =
       h.finishes
-  not_twelve (inr (inr (found, files, a, prepared, input, is, (are_bytes, inr (inr h))))) = cc h.0
+  not_twelve (inr (inr (found, files, a, prepared, input, is, begins, (are_bytes, inr (inr h))))) = cc h.0
 
   pub never_rejected :
       OnlyCaused (certifying language SectionOf) (certifying_tables language SectionOf) arguments call

@@ -5,7 +5,7 @@ use Rattle.cli_spec.specs.declared.status.Status.{Status}
 use Rattle.cli_spec.specs.Outcome.{unfetched, nothing, exits as exits_reply, stopped, ending_of, own, generate, Asks}
 use Rattle.cli_spec.specs.declared.exit.Exit.{Exit}
 use Rattle.cli_spec.specs.declared.exit.Exit.TheVariants.{Memory as out_of_memory}
-use Rattle.base_io.specs.StreamState.{ByteState, FilesState, Change, change}
+use Rattle.base_io.specs.StreamState.{ByteState, SourceState, FilesState, Change, change}
 use Rattle.run_spec.specs.runs.Call.{call}
 use Rattle.run_spec.specs.runs.Account.{FetchesFor, Account}
 use Rattle.run_spec.specs.runs.Commands.{Fetches, Given, Prepares, RunReplies}
@@ -35,7 +35,7 @@ module _ (words : List (List ℕ)) (files : FilesState) where
     all = λ turn name wanted. absurd wanted.wants;
   }
 
-  module _ (input out : ByteState) (err : Change ByteState) (status : Status) where
+  module _ (input : SourceState) (out : ByteState) (err : Change ByteState) (status : Status) where
     abbrev given : Given
     given = record { files = unfetched_files; input = nothing }
 
@@ -88,7 +88,7 @@ module _ (words : List (List ℕ)) (files : FilesState) where
     -- Case: TYPE is refused.
     pub type_account :
         (exit : Exit) → GivesItemType type (Err exit)
-        → (input out : ByteState) (err : Change ByteState) (status : Status)
+        → (input : SourceState) (out : ByteState) (err : Change ByteState) (status : Status)
         → Reports exit err status
         → Account (gen_spec declared_types) words
         (call (change input input) (change files files) (change out out) err status)
@@ -108,7 +108,7 @@ module _ (words : List (List ℕ)) (files : FilesState) where
     -- Case: TYPE is valid, and the value is generated.
     pub made_account :
         (r : Prepared) → GivesItemType type (Ok r)
-        → (input out err : Change ByteState) (status : Status)
+        → (input : Change SourceState) (out err : Change ByteState) (status : Status)
         → HasAccount (gen_spec declared_types) (making_of number count r) input out err status
         → Account (gen_spec declared_types) words
         (call input (change files files) out err status)

@@ -16,7 +16,7 @@ use Rattle.run_spec.specs.runs.Lawful.{AreLawful}
 use Rattle.run_spec.specs.runs.Environment.{WritesLine, IsWriteOrMemoryError}
 use Rattle.run_spec.specs.runs.RunSpec.{IsOfOutcome, RunSpec}
 use Rattle.run_spec.proofs.runs.RunOnceLemmas.{replies_once}
-use Rattle.run_spec.proofs.runs.RunSettledLemmas.{Goes, exit_status}
+use Rattle.run_spec.proofs.runs.RunSettledLemmas.{Goes, exit_status, some_outcome}
 use Rattle.run_spec.specs.exit_statuses.Stages.{IsRefusedType}
 use Rattle.cmd_gen.specs.spec.GenSpec.{GenArguments, Making, making, IsMadeLine, EndsWithLine, gen_spec}
 use Rattle.cmd_gen.specs.spec.ExitStatuses.{IsKnownOf, IsKnown, Gives, AskFor, IsDue, HasWhatIsDue, WritesTheLine, AreNever}
@@ -214,7 +214,7 @@ module _ {D T E : Type 0} (language : Language D T E) where
     module _ (call : Call) (lawful : AreLawful (gen_spec language)) where
       pub what_is_due :
           RunSpec (gen_spec language) arguments call → HasWhatIsDue language arguments call
-      what_is_due p = by p.status where
+      what_is_due p = by (some_outcome (gen_spec language) arguments call p.account) where
         exact : IsOfOutcome (gen_spec language) arguments call call.status → (status : Status)
             → (call.status ≡ status) ↔ IsDue language arguments status
         exact o status = (forward, back) where

@@ -5,8 +5,7 @@ ghost use Rattle.base_io.specs.IoFaults.{count_after};
 ghost use Rattle.base_io.specs.Sink.{AppendsPrefix};
 ghost use Rattle.cmd_gen.specs.generator.Tally.{tally_state, HasNoRoom};
 
-use crate::generator::received_bytes::ReceivedBytes;
-use base_io::{Failed, Sink};
+use base_io::{Failed, History, Sink};
 use std::marker::Model;
 
 /// The maximum number of bytes that one call accepts.
@@ -19,18 +18,20 @@ pub struct Tally {
     count: u64,
     total: u64,
     faults: u64,
-    seen: ReceivedBytes,
+    history: History,
 }
 
 impl Model for Tally {
     ghost use Rattle.std.specs.Prelude.{◌≡◌, length, sum};
+    ghost use Rattle.base_io.specs.History.{bytes_of};
     ghost use Rattle.cmd_gen.specs.generator.Tally.{Known};
 
     ghost Value = { Known };
 
-    ghost view = { λ t. record { written = t.seen.bytes; faults = t.faults } };
+    ghost view = { λ t. record { written = bytes_of t.history.calls; faults = t.faults } };
 
-    ghost invariant = { λ t. (t.count ≡ length t.seen.bytes) × (t.total ≡ sum t.seen.bytes) };
+    ghost invariant = { λ t. (t.count ≡ length (bytes_of t.history.calls))
+        × (t.total ≡ sum (bytes_of t.history.calls)) };
 }
 
 impl Tally {
@@ -42,7 +43,7 @@ impl Tally {
             count: 0,
             total: 0,
             faults: 0,
-            seen: ReceivedBytes::nothing(),
+            history: History::new(),
         }
     }
 
@@ -85,7 +86,7 @@ impl Sink for Tally {
             (Some(count), Some(total)) => {
                 self.count = count;
                 self.total = total;
-                self.seen.add(prefix);
+                self.history.add_moved(chunk.len(), prefix);
                 Ok(prefix.len())
             }
             _ => {
@@ -94,6 +95,8 @@ impl Sink for Tally {
             }
         }
     }
+
+    fn knows_bytes(&self) {}
 }
 
 /// Returns the sum of at most `MOST` bytes.

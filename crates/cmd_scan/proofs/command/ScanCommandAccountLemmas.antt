@@ -2,7 +2,7 @@
 use Rattle.std.proofs.Common.{◌≡◌, ℕ, List, Option, Some, Ok, refl, arith}
 use Rattle.cli_spec.specs.declared.status.Status.{Status}
 use Rattle.cli_spec.specs.Outcome.{unfetched, Request, Asks}
-use Rattle.base_io.specs.StreamState.{ByteState, FilesState, Change, change}
+use Rattle.base_io.specs.StreamState.{ByteState, SourceState, FilesState, Change, change}
 use Rattle.run_spec.specs.runs.Call.{call}
 use Rattle.run_spec.specs.runs.Account.{FetchesFor, Account}
 use Rattle.run_spec.specs.runs.Commands.{Fetches}
@@ -26,7 +26,7 @@ module _ (limit_by : Request → Option ℕ) (words : List (List ℕ)) (files : 
 
   pub search_account :
       (request : Request) (limit : ℕ) → Asks words request → limit_by request ≡ Some limit
-      → (input out err : Change ByteState) (status : Status)
+      → (input : Change SourceState) (out err : Change ByteState) (status : Status)
       → HasAccount (searching limit_by) limit input out err status
       → Account (searching limit_by) words (call input (change files files) out err status)
   search_account request limit asks is input out err status has =

@@ -17,9 +17,9 @@ module _ (limit_by : Request → Option ℕ) (arguments : List (List ℕ)) (call
   uncaused status usage ok (inl (none, is)) = usage is
   uncaused status usage ok (inr (inl b)) = b.bar
   uncaused status usage ok
-      (inr (inr (found, files, limit, prepared, input, is, (are_bytes, inl h)))) = h
+      (inr (inr (found, files, limit, prepared, input, is, begins, (are_bytes, inl h)))) = h
   uncaused status usage ok
-      (inr (inr (found, files, limit, prepared, input, is, (are_bytes, inr h)))) = ok h
+      (inr (inr (found, files, limit, prepared, input, is, begins, (are_bytes, inr h)))) = ok h
 
   output_of : (status : Status) → status ≢ WriteFault → status ≢ Memory → IsWriteOrMemoryError status → ⊥
   output_of status write memory (inl e) = memory e

@@ -5,7 +5,7 @@ use Rattle.cli_spec.specs.declared.read_options.ReadOptions.{ReadOptions}
 use Rattle.cli_spec.specs.Outcome.{Found, unfetched, Request, asked_type, own, verify, Asks}
 use Rattle.cli_spec.specs.declared.exit.Exit.{Exit}
 use Rattle.cli_spec.specs.declared.exit.Exit.TheVariants.{Memory as out_of_memory}
-use Rattle.base_io.specs.StreamState.{ByteState, FilesState, Change, change}
+use Rattle.base_io.specs.StreamState.{ByteState, SourceState, FilesState, Change, change}
 use Rattle.cert_format.specs.declared.section.Section.{Section}
 use Rattle.cli_errors.specs.Exits.{Reports}
 use Rattle.run_spec.specs.runs.Account.{IsWanted, FetchesIn, FetchesFor, Account}
@@ -96,7 +96,7 @@ module _ (arguments : List (List ℕ)) (file type certificate : List ℕ) (lines
   gives_exit exit (inr memory) = inr memory
 
   pub no_type_account :
-      (exit : Exit) → GivesType file (asked_type type lines) found (Err exit) → (input out : ByteState)
+      (exit : Exit) → GivesType file (asked_type type lines) found (Err exit) → (input : SourceState) (out : ByteState)
       (err : Change ByteState) (status : Status) → Reports exit err status
       → Account on_certificates_after arguments (call (change input input) files (change out out) err status)
   no_type_account exit gives input out err status r =
@@ -155,7 +155,7 @@ module _ (arguments : List (List ℕ)) (r : Prepared) (certificate : List ℕ) (
   -- If CERT gives an exit reason instead of entries, and the exit reason is reported, then the run
   -- has an account.
   pub no_sections_account :
-      (exit : Exit) → GivesCertificate certificate found (Err exit) → (input out : ByteState)
+      (exit : Exit) → GivesCertificate certificate found (Err exit) → (input : SourceState) (out : ByteState)
       (err : Change ByteState) (status : Status) → Reports exit err status
       → Account on_certificates_after arguments
       (call (change input input) (change a c) (change out out) err status)
@@ -166,7 +166,7 @@ module _ (arguments : List (List ℕ)) (r : Prepared) (certificate : List ℕ) (
   -- If CERT gives entries, and the values are verified, then the run has an account.
   pub sections_account :
       (sections : List Section) → GivesCertificate certificate found (Ok sections)
-      → (input out err : Change ByteState) (status : Status)
+      → (input : Change SourceState) (out err : Change ByteState) (status : Status)
       → HasAccount on_certificates_after (certified_after r sections reading) input out err status
       → Account on_certificates_after arguments (call input (change a c) out err status)
   sections_account sections gives input out err status does =
@@ -178,7 +178,7 @@ module _ (arguments : List (List ℕ)) (r : Prepared) (certificate : List ℕ) (
 
 -- If the skipped bytes and the tasks are equal, then `Account` holds for both tasks.
 pub account_same :
-    (over other : SkippedBytes) (a b : Verification TypeOver Section) (input out err : Change ByteState)
+    (over other : SkippedBytes) (a b : Verification TypeOver Section) (input : Change SourceState) (out err : Change ByteState)
     (status : Status) → over ≡ other → a ≡ b
     → HasAccount on_certificates_after (over, a) input out err status
     → HasAccount on_certificates_after (other, b) input out err status

@@ -37,17 +37,17 @@ module _ {D T E S : Type 0} (language : Language D T E) (Reads : ReadsSections S
   not_five : Caused Script → ⊥
   not_five (inl (none, is)) = cc is
   not_five (inr (inl b)) = b.bar
-  not_five (inr (inr (found, files, a, prepared, input, is, (are_bytes, inl h)))) =
+  not_five (inr (inr (found, files, a, prepared, input, is, begins, (are_bytes, inl h)))) =
       script_exit a input h
-  not_five (inr (inr (found, files, a, prepared, input, is, (are_bytes, inr h)))) =
+  not_five (inr (inr (found, files, a, prepared, input, is, begins, (are_bytes, inr h)))) =
       script_end a input h
 
   not_eleven : Caused Compat → ⊥
   not_eleven (inl (none, is)) = cc is
   not_eleven (inr (inl b)) = b.bar
-  not_eleven (inr (inr (found, files, a, prepared, input, is, (are_bytes, inl h)))) =
+  not_eleven (inr (inr (found, files, a, prepared, input, is, begins, (are_bytes, inl h)))) =
       compat_exit a input h
-  not_eleven (inr (inr (found, files, a, prepared, input, is, (are_bytes, inr h)))) =
+  not_eleven (inr (inr (found, files, a, prepared, input, is, begins, (are_bytes, inr h)))) =
       compat_end a input h
 
   pub never_edited :

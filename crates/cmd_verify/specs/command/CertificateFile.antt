@@ -5,7 +5,7 @@ use Rattle.cert_format.specs.declared.certificate_reader.CertFault.{CertFault}
 use Rattle.cert_format.specs.declared.certificate_reader.CertFault.TheVariants.{Syntax, Memory}
 use Rattle.cert_format.specs.declared.section.Section.{Section}
 use Rattle.cert_format.specs.Coming.{HasCome}
-use Rattle.base_io.specs.StreamState.{ByteState, FilesState, Change}
+use Rattle.base_io.specs.StreamState.{SourceState, FilesState, Change}
 use Rattle.cli_spec.specs.Outcome.{Taken, Found, opened, at_end, fault_of}
 use Rattle.cli_spec.specs.declared.exit.Exit.{Exit}
 use Rattle.cli_spec.specs.declared.exit.Exit.TheVariants.{Certificate as certificate_line}
@@ -41,7 +41,7 @@ all_of bytes = record { bytes = bytes; until = at_end }
 
 -- If the result is `Ok`, all bytes of the source were passed to the reader. If the result is an
 -- exit reason, the exit reason states why no more bytes were taken.
-abbrev pub ComesWhole : Change ByteState → CertReader → Result (Unit {0}) Exit → Type 0
+abbrev pub ComesWhole : Change SourceState → CertReader → Result (Unit {0}) Exit → Type 0
 ComesWhole source reader (Ok done) =
     (bytes : List ℕ) × Gathers source (all_of bytes) × HasCome reader bytes
 ComesWhole source reader (Err exit) =
@@ -50,7 +50,7 @@ ComesWhole source reader (Err exit) =
 
 -- The bytes taken from the source determine the entries or the exit reason, for every name of the
 -- file.
-abbrev pub TakesCertificate : Change ByteState → Result (List Section) Exit → Type 0
+abbrev pub TakesCertificate : Change SourceState → Result (List Section) Exit → Type 0
 TakesCertificate source result =
     (taken : Taken) × Gathers source taken
     × ((name : List ℕ) → GivesCertificate name (opened taken) result)

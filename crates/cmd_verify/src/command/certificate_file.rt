@@ -55,7 +55,7 @@ fn take_chunks<O: Opener>(
         result }
     ensures frame { O.state files.new ≡ record (O.state files.old) {
       left = (O.state files.new).left;
-      read_faults = (O.state files.new).read_faults;
+      calls = (O.state files.new).calls;
     } }
 {
     let mut taken = 0;
@@ -93,7 +93,7 @@ fn read_fetched<O: Opener>(alloc: Global, files: &mut O) -> Result<Cert, Exit>
         (change (as_source (O.state files.old)) (as_source (O.state files.new))) result }
     ensures frame { O.state files.new ≡ record (O.state files.old) {
       left = (O.state files.new).left;
-      read_faults = (O.state files.new).read_faults;
+      calls = (O.state files.new).calls;
     } }
 {
     let Ok(mut buffer) = new_buffer(alloc) else {

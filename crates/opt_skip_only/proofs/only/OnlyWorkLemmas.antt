@@ -20,7 +20,7 @@ use Rattle.opt_skip_only.specs.only_spec.OnlyOutput.{output_of_one}
 use Rattle.opt_skip_only.proofs.only_spec.OnlyKnownLemmas.{is_known, on_up_to, output_before, output_at, print_count, first_of_one}
 use Rattle.run_loop.proofs.work.WorkFirstLemmas.{first_stays}
 use Rattle.run_loop.specs.work.Works.{Has, ItemsStay, AbortsIn, FinishesIn, Aborts, Feeds, WritesLast, EndsAt}
-use Rattle.opt_skip_only.specs.only.Picked.{HasPicked, nowhere, EndsBefore}
+use Rattle.opt_skip_only.specs.only.Picked.{HasPicked, EndsBefore}
 
 module _ {A : Type 0} (picked_by : Request → Option ℕ) (c : Commands A) (a : A) where
   abbrev one : Commands (Option ℕ × A)
@@ -62,12 +62,12 @@ exits_too k c a items bytes exit few (inr memory) = inr memory
 -- ---- current bytes
 
 module _ {A : Type 0} (c : Commands A) (a : A) where
-  -- Current bytes are consumed as without `--only`, but no output is written.
+  -- Current bytes are consumed as without `--only`, and the output is discarded.
   abbrev pub FeedsUnsaid : Has → Has → List ℕ → Result ℕ Error → Type 0
   FeedsUnsaid before after buffered (Ok n) =
-      Feeds c a before after buffered (change nowhere nowhere) (Ok n)
+      (inner : Change ByteState) × Feeds c a before after buffered inner (Ok n)
   FeedsUnsaid before after buffered (Err (aborts.Exit exit)) =
-      Feeds c a before after buffered (change nowhere nowhere) (Err (aborts.Exit exit))
+      (inner : Change ByteState) × Feeds c a before after buffered inner (Err (aborts.Exit exit))
   FeedsUnsaid before after buffered (Err aborts.WriteFault) = ⊥
 
 module _ {A : Type 0} (picked_by : Request → Option ℕ) (c : Commands A) (a : A) (k : ℕ) (has : Has) where
@@ -128,11 +128,11 @@ module _ {A : Type 0} (picked_by : Request → Option ℕ) (c : Commands A) (a :
         → ((bytes : List ℕ) (known : List Output) → has bytes known → length known < k)
         → (result : Result ℕ Error) → FeedsUnsaid c a has new buffered result
         → Feeds (only_command picked_by c) (Some k, a) There (HasPicked (Some k) new) buffered (change o o) result
-    fed_before new buffered o less (Ok n) (some, fits, f) = (some, fits, next) where
+    fed_before new buffered o less (Ok n) (inner, (some, fits, f)) = (some, fits, next) where
       next : (bytes : List ℕ) (output : List Output) → There bytes output → Came new n buffered bytes output (change o o)
       next bytes output h = by (f bytes h.known h.there) where
         by : ((more : List Output) × (length more ≤ 1) × new (bytes ++ take n buffered) (h.known ++ more)
-            × Writes (change nowhere nowhere) (texts_of more))
+            × Writes inner (texts_of more))
             → Came new n buffered bytes output (change o o)
         by ([], least, there, write) =
             ([], omega arith, none_more new n buffered bytes output h there, writes_nothing o)
@@ -143,14 +143,14 @@ module _ {A : Type 0} (picked_by : Request → Option ℕ) (c : Commands A) (a :
           writes_nothing o,
         )
         by (s ∷ t ∷ more, least, there, write) = absurd (omega (arith, least))
-    fed_before new buffered o less (Err (aborts.Exit exit)) f = λ bytes output h.
+    fed_before new buffered o less (Err (aborts.Exit exit)) (inner, f) = λ bytes output h.
         subst (λ s. Aborts (only_command picked_by c) (Some k, a) bytes buffered s (change o o) (aborts.Exit exit))
         (sym h.output_are) (by bytes h.known h.up_to (f bytes h.known h.there)) where
           by : (bytes : List ℕ) (known : List Output) → length known ≤ k
-              → Aborts c a bytes buffered known (change nowhere nowhere) (aborts.Exit exit)
+              → Aborts c a bytes buffered known inner (aborts.Exit exit)
               → Aborts (only_command picked_by c) (Some k, a) bytes buffered (output_of_one k known) (change o o) (aborts.Exit exit)
           by bytes known few (inl h) =
-              inl (aborts_at buffered (change nowhere nowhere) (change o o) bytes known few exit (writes_nothing o) h)
+              inl (aborts_at buffered inner (change o o) bytes known few exit (writes_nothing o) h)
           by bytes known few (inr f) = absurd (never f.items f.rest f.ok f.at)
     fed_before new buffered o less (Err aborts.WriteFault) f = absurd f
 
@@ -306,18 +306,18 @@ module _ {A : Type 0} (picked_by : Request → Option ℕ) (c : Commands A) (a :
             )
 
 -- If the input ends before the selected item, then the run ends for a missing item.
-module _ {A : Type 0} (c : Commands A) (a : A) (has : Has) where
+module _ {A : Type 0} (c : Commands A) (a : A) (has : Has) (inner : Change ByteState) where
   pub ends_missing : (count : ℕ)
       → ((bytes : List ℕ) (output : List Output) → has bytes output → count ≡ length output)
       → (exit : Exit) → IsOrMemory (value count (truncated_text 0)) exit
-      → (ok : Bool) → EndsAt c a has (change nowhere nowhere) (Ok ok)
+      → (ok : Bool) → EndsAt c a has inner (Ok ok)
       → EndsBefore c a has (Err (aborts.Exit exit))
   ends_missing count counts exit known ok ends = λ bytes output there.
       by bytes output (counts bytes output there) known (ends bytes output there) where
         by : (bytes : List ℕ) (output : List Output) → count ≡ length output
             → IsOrMemory (value count (truncated_text 0)) exit
             → ((holds : HaveNoExit c a bytes output)
-            × WritesLast c a output holds.items holds.rest (change nowhere nowhere) (Ok ok))
+            × WritesLast c a output holds.items holds.rest inner (Ok ok))
             → (holds : HaveNoExit c a bytes output)
             × (((reply : Reply) × c.Ends a holds.items holds.rest reply
             × (exits exit ≡ missing (length holds.items) reply))
@@ -329,12 +329,12 @@ module _ {A : Type 0} (c : Commands A) (a : A) (has : Has) where
             (holds, inl (outputs final, is, ap exits e ∙ ap (λ m. exits (value m (truncated_text 0))) all))
 
   pub ends_stopped : (exit : Exit)
-      → EndsAt c a has (change nowhere nowhere) (Err (aborts.Exit exit))
+      → EndsAt c a has inner (Err (aborts.Exit exit))
       → EndsBefore c a has (Err (aborts.Exit exit))
   ends_stopped exit ends = λ bytes output there. by bytes output (ends bytes output there) where
     by : (bytes : List ℕ) (output : List Output)
         → ((holds : HaveNoExit c a bytes output)
-        × WritesLast c a output holds.items holds.rest (change nowhere nowhere) (Err (aborts.Exit exit)))
+        × WritesLast c a output holds.items holds.rest inner (Err (aborts.Exit exit)))
         → (holds : HaveNoExit c a bytes output)
         × (((reply : Reply) × c.Ends a holds.items holds.rest reply
         × (exits exit ≡ missing (length holds.items) reply))
@@ -342,13 +342,13 @@ module _ {A : Type 0} (c : Commands A) (a : A) (has : Has) where
     by bytes output (holds, (inl is, write)) = (holds, inl (exits exit, is, refl))
     by bytes output (holds, (inr memory, write)) = (holds, inr memory)
 
-  -- If a sink accepts everything, then no write to the sink fails.
-  pub ends_faulted : EndsAt c a has (change nowhere nowhere) (Err aborts.WriteFault)
+  -- A command that ends with a failed write to the discarded output ends as if memory ran out.
+  pub ends_faulted : EndsAt c a has inner (Err aborts.WriteFault)
       → EndsBefore c a has (Err (aborts.Exit out_of_memory))
   ends_faulted ends = λ bytes output there. by bytes output (ends bytes output there) where
     by : (bytes : List ℕ) (output : List Output)
         → ((holds : HaveNoExit c a bytes output)
-        × WritesLast c a output holds.items holds.rest (change nowhere nowhere) (Err aborts.WriteFault))
+        × WritesLast c a output holds.items holds.rest inner (Err aborts.WriteFault))
         → (holds : HaveNoExit c a bytes output)
         × (((reply : Reply) × c.Ends a holds.items holds.rest reply
         × (exits out_of_memory ≡ missing (length holds.items) reply))
@@ -356,15 +356,19 @@ module _ {A : Type 0} (c : Commands A) (a : A) (has : Has) where
     by bytes output (holds, final) = (holds, inr refl)
 
   pub feeds_faulted : (new : Has) (buffered : List ℕ)
-      → Feeds c a has new buffered (change nowhere nowhere) (Err aborts.WriteFault)
+      → Feeds c a has new buffered inner (Err aborts.WriteFault)
       → FeedsUnsaid c a has new buffered (Err (aborts.Exit out_of_memory))
-  feeds_faulted new buffered f = λ bytes output there. by bytes output (f bytes output there) where
-    by : (bytes : List ℕ) (output : List Output)
-        → Aborts c a bytes buffered output (change nowhere nowhere) aborts.WriteFault
-        → Aborts c a bytes buffered output (change nowhere nowhere) (aborts.Exit out_of_memory)
-    by bytes output (inl (holds, next, are_output, part)) =
-        inl (holds, inr refl, writes_nothing nowhere)
-    by bytes output (inr f) = let e = f.is in absurd (cc e)
+  feeds_faulted new buffered f =
+      (none, λ bytes output there. by bytes output (f bytes output there)) where
+        none : Change ByteState
+        none = change inner.before inner.before
+
+        by : (bytes : List ℕ) (output : List Output)
+            → Aborts c a bytes buffered output inner aborts.WriteFault
+            → Aborts c a bytes buffered output none (aborts.Exit out_of_memory)
+        by bytes output (inl (holds, next, are_output, part)) =
+            inl (holds, inr refl, writes_nothing inner.before)
+        by bytes output (inr f) = let e = f.is in absurd (cc e)
 
 -- If the command stores the number of the selected item, then its steps satisfy the specification.
 pub fed_picked : {A : Type 0} (picked_by : Request → Option ℕ) (c : Commands A) (a : A) (picked : Option ℕ) (k : ℕ)

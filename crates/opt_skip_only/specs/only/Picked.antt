@@ -3,7 +3,6 @@ use Rattle.std.specs.Prelude.{ℕ, ◌≤◌, ◌≡◌, ◌⊎◌, Bool, List, 
 use Rattle.std.specs.Prelude.{Err}
 use Rattle.cli_spec.specs.Outcome.{Output, Reply, exits}
 use Rattle.cli_spec.specs.declared.exit.Exit.TheVariants.{Memory as out_of_memory}
-use Rattle.base_io.specs.StreamState.{ByteState}
 use Rattle.opt_skip_only.specs.only_spec.OnlyCommand.{missing}
 use Rattle.opt_skip_only.specs.only_spec.OnlyOutput.{output_of_one}
 use Rattle.run_spec.specs.runs.Account.{HaveNoExit}
@@ -29,10 +28,6 @@ pub record HasPicked (picked : Option ℕ) (has : Has) (bytes : List ℕ) (outpu
   pub output_are : output ≡ output_by picked known
   pub up_to : AreUpTo picked known
   pub there : has bytes known
-
--- A sink that accepts everything and whose contents are not known.
-abbrev pub nowhere : ByteState
-nowhere = record { bytes = None; faults = 0 }
 
 module _ {A : Type 0} (c : Commands A) (a : A) where
   -- The run ends because the input ends before the selected item is complete, or because memory ran

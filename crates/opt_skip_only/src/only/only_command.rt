@@ -3,13 +3,13 @@
 ghost use Rattle.std.specs.Prelude.{◌≡◌, ◌<◌, ◌+◌, ◌^◌, List, [], ℕ, Option, Some, length};
 ghost use Rattle.cli_spec.specs.Outcome.{Output};
 ghost use Rattle.base_io.specs.StreamState.{change};
-ghost use Rattle.opt_skip_only.specs.only.Picked.{nowhere, HasPicked, EndsBefore};
+ghost use Rattle.opt_skip_only.specs.only.Picked.{HasPicked, EndsBefore};
 ghost use Rattle.opt_skip_only.specs.only_spec.OnlyCommand.{only_command};
 ghost use Rattle.run_loop.specs.work.Works.{Feeds};
 
 use crate::only::Counts;
 use crate::only_spec::laws::PicksOne;
-use base_io::{Failed, Sink};
+use base_io::{Failed, History, Sink};
 use cli_errors::exit_constructors::split_value;
 use cli_errors::exit_line::Error;
 use cli_spec::exit::Exit;
@@ -19,14 +19,31 @@ use std::marker::PhantomData;
 
 /// A sink that discards its input.
 #[derive(Drop)]
-struct DiscardSink {}
+struct DiscardSink {
+    history: History,
+}
+
+impl DiscardSink {
+    /// Creates a sink to which nothing was written.
+    fn new() -> DiscardSink {
+        DiscardSink {
+            history: History::new(),
+        }
+    }
+}
 
 impl Sink for DiscardSink {
-    ghost state = { λ _. nowhere };
+    ghost use Rattle.std.specs.Prelude.{Some};
+    ghost use Rattle.base_io.specs.History.{bytes_of};
+
+    ghost state = { λ s. record { bytes = Some (bytes_of s.history.calls); faults = 0 } };
 
     fn write(&mut self, chunk: &[u8]) -> Result<usize, Failed> {
+        self.history.add_moved(chunk.len(), chunk);
         Ok(chunk.len())
     }
+
+    fn knows_bytes(&self) {}
 }
 
 /// A command with output for the item with number `picked` only, or for all items if `picked` is
@@ -61,7 +78,7 @@ fn end_before<W: Counts>(alloc: Global, work: &mut W) -> Result<bool, Error>
     ensures { EndsBefore W.commands (W.act work.old) (W.has work.old) result }
 {
     let count = work.count();
-    let mut sink = DiscardSink {};
+    let mut sink = DiscardSink::new();
     match work.end(alloc, &mut sink) {
         Ok(_) => Err(Error::Exit(split_value(alloc, count, 0))),
         Err(Error::Exit(exit)) => Err(Error::Exit(exit)),
@@ -122,8 +139,8 @@ impl<P: PicksOne, W: Counts> Work for OnlyCommand<P, W> {
             return feed_last::<P, W, K>(alloc, &mut self.work, number, chunk, out);
         }
         self.work.never_finishes();
-        let mut write_or_memory_error = DiscardSink {};
-        match self.work.feed(alloc, chunk, &mut write_or_memory_error) {
+        let mut discarded = DiscardSink::new();
+        match self.work.feed(alloc, chunk, &mut discarded) {
             Ok(taken) => Ok(taken),
             Err(Error::Exit(exit)) => Err(Error::Exit(exit)),
             Err(Error::WriteFault) => Err(Error::Exit(Exit::Memory)),

@@ -4,13 +4,15 @@ use Rattle.std.proofs.lemmas.Option.{IfSome_then}
 use Rattle.cli_spec.specs.Outcome.{Taken, ReadingEnd, at_end, at_fault, at_length, unasked, Output, exits, replies}
 use Rattle.cli_spec.specs.declared.exit.Exit.{Exit}
 use Rattle.base_io.specs.IoFaults.{RoseOrLast}
-use Rattle.base_io.specs.StreamState.{ByteState, Change}
+use Rattle.base_io.specs.History.{HasFailed}
+use Rattle.base_io.specs.StreamState.{ByteState, SourceState, Change}
 use Rattle.cli_errors.specs.declared.exit_line.Error.{Error}
 use Rattle.cli_errors.specs.declared.exit_line.Error.TheVariants as aborts
 use Rattle.run_spec.specs.runs.Commands.{Item, Commands, Closes, IsLast, Answers}
-use Rattle.run_spec.specs.runs.Given.{Gathers}
+use Rattle.run_spec.specs.runs.Given.{Gathers, is_fault}
 use Rattle.run_spec.specs.runs.Lawful.{IsInner, AreLawfulAt}
-use Rattle.run_spec.specs.runs.Environment.{WritesPartAfter}
+use Rattle.run_spec.specs.runs.Environment.{Called, WritesPartAfter}
+use Rattle.run_spec.proofs.runs.FailedLemmas.{took_fails}
 use Rattle.run_spec.proofs.runs.RunWriteLemmas.{rose_after}
 use Rattle.run_loop.specs.work.Runs.{EndsRun}
 use Rattle.run_loop.specs.work.Reported.{HasReason, AbortsByEnvironment, ReportsEnvironment}
@@ -24,7 +26,7 @@ part_rose out text next (between, write, part) =
 
 -- If the run ends because of the length of the input, then the input has at least 2^48 bytes.
 long_input :
-    (input : Change ByteState) (taken : Taken) → Gathers input taken → taken.until ≡ at_length
+    (input : Change SourceState) (taken : Taken) → Gathers input taken → taken.until ≡ at_length
     → IfSome input.before.bytes (λ bytes. 2 ^ 48 ≤ length bytes)
 long_input input taken gathers is =
     IfSome_then input.before.bytes gathers.known (λ bytes known.
@@ -33,14 +35,14 @@ long_input input taken gathers is =
     let long = (rw is at gathers.measured).0 in omega (arith, size, long))
 
 module _ {A : Type 0} (c : Commands A) (a : A) (lawful : AreLawfulAt c a)
-    (input : Change ByteState) (taken : Taken) (gathers : Gathers input taken) where
+    (input : Change SourceState) (taken : Taken) (gathers : Gathers input taken) where
   closes_reason :
       (items : List Item) (rest : List ℕ) (until : ReadingEnd) (exit : Exit) → taken.until ≡ until
       → Closes c a items rest until (exits exit) → HasReason input exit
   closes_reason items rest at_end exit is ends = inl (lawful.ends_inside items rest exit ends)
   closes_reason items rest at_fault exit is same = inr (inr (inl (cc same, failed))) where
-    failed : RoseOrLast input.before.faults input.after.faults
-    failed = rw is at gathers.cause.rose
+    failed : Called input.before.calls input.after.calls HasFailed
+    failed = took_fails input.before.calls input.after.calls taken gathers.called (ap is_fault is)
   closes_reason items rest at_length exit is same =
       inr (inr (inr (cc same, long_input input taken gathers is)))
   closes_reason items rest unasked exit is same = absurd same

@@ -4,7 +4,7 @@ use Rattle.cli_spec.specs.declared.status.Status.{Status}
 use Rattle.cli_spec.specs.Outcome.{IsUsage, Request, nothing, unfetched, exits as exits_reply, stopped, ending_of}
 use Rattle.cli_spec.specs.declared.exit.Exit.{Exit}
 use Rattle.cli_spec.specs.declared.exit.Exit.TheVariants.{Usage as usage, Memory as out_of_memory}
-use Rattle.base_io.specs.StreamState.{ByteState, FilesState, Change, change}
+use Rattle.base_io.specs.StreamState.{ByteState, SourceState, FilesState, Change, change}
 use Rattle.cli_errors.specs.Exits.{Reports}
 use Rattle.run_spec.specs.runs.Account.{FetchesFor, MayBe, Account}
 use Rattle.run_spec.specs.runs.Call.{Call, call}
@@ -23,7 +23,7 @@ abbrev pub nothing_found : Fetches
 nothing_found = λ turn name. unfetched
 
 module _ {A : Type 0} (c : Commands A) (arguments : List (List ℕ)) where
-  module _ (found : Fetches) (input out : ByteState) (files : Change FilesState)
+  module _ (found : Fetches) (input : SourceState) (out : ByteState) (files : Change FilesState)
       (fetches : FetchesFor c arguments files found) (err : Change ByteState) (status : Status) where
     abbrev given : Given
     given = record { files = found; input = nothing }
@@ -81,7 +81,7 @@ module _ {A : Type 0} (c : Commands A) (arguments : List (List ℕ)) where
       all = λ turn name w. in_turns w.request nothing_found turn name w.wants;
     }
 
-    module _ (input out : ByteState) (err : Change ByteState) (status : Status) where
+    module _ (input : SourceState) (out : ByteState) (err : Change ByteState) (status : Status) where
       abbrev Untouched : Type 0
       Untouched =
           Account c arguments

@@ -6,7 +6,7 @@ use Rattle.cli_spec.specs.Outcome.{Taken, nothing, Output, outputs, exits, repli
 use Rattle.cli_spec.specs.declared.exit.Exit.{Exit}
 use Rattle.cli_spec.specs.declared.exit.Exit.TheVariants.{Memory as out_of_memory}
 use Rattle.base_io.specs.Sink.{Writes}
-use Rattle.base_io.specs.StreamState.{ByteState, FilesState, Change}
+use Rattle.base_io.specs.StreamState.{ByteState, SourceState, FilesState, Change}
 use Rattle.cli_errors.specs.declared.exit_line.Error.{Error}
 use Rattle.cli_errors.specs.declared.exit_line.Error.TheVariants as aborts
 use Rattle.cli_errors.specs.Exits.{Reports}
@@ -35,7 +35,7 @@ module _ {A : Type 0} (c : Commands A) (a : A) (arguments : List (List ℕ)) (fo
   untaken output (inl (reads, paced)) none = absurd (none a prepared reads)
   untaken output (inr (unread, is, silent)) none = is
 
-  module _ (output : List Output) (input out err : Change ByteState) (status : Status) where
+  module _ (output : List Output) (input : Change SourceState) (out err : Change ByteState) (status : Status) where
     abbrev Ended : Type 0
     Ended = Completes c arguments given output (call input files out err status)
         ⊎ Breaks c arguments given output (call input files out err status)
@@ -104,7 +104,7 @@ module _ {A : Type 0} (c : Commands A) (a : A) (arguments : List (List ℕ)) (fo
 
 -- If a run satisfies `Runs` and is reported, then the run has an account.
 pub account :
-    {A : Type 0} (c : Commands A) (a : A) (input out err : Change ByteState) (status : Status)
+    {A : Type 0} (c : Commands A) (a : A) (input : Change SourceState) (out err : Change ByteState) (status : Status)
     (result : Result Bool Error) → Runs c a input out result → IsReported result err status
     → HasAccount c a input out err status
 account c a input out err status result runs reported arguments found files fetches prepared = record {

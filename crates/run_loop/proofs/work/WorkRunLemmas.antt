@@ -8,7 +8,7 @@ use Rattle.cli_spec.specs.declared.exit.Exit.{Exit}
 use Rattle.cli_spec.specs.declared.exit.Exit.TheVariants.{Finished as finished, ReadFault as read_fault, TooLong as too_long, Memory as out_of_memory}
 use Rattle.base_io.specs.Sink.{Writes}
 use Rattle.base_io.specs.Source.{TakesPrefix}
-use Rattle.base_io.specs.StreamState.{ByteState, Change, change}
+use Rattle.base_io.specs.StreamState.{ByteState, SourceState, Change, change}
 use Rattle.cli_errors.specs.declared.exit_line.Error.{Error}
 use Rattle.cli_errors.specs.declared.exit_line.Error.TheVariants as aborts
 use Rattle.run_spec.specs.runs.Account.{HaveNoExit, IsPaced}
@@ -23,7 +23,7 @@ use Rattle.run_loop.proofs.work.WorkFirstLemmas.{first_stays, none_first}
 
 -- The first `count` bytes of the input are consumed and do not end the run. The outputs for the
 -- items of the consumed bytes are written.
-pub record RunSoFar (has : Has) (count : ℕ) (input out : Change ByteState) : Type 0 where
+pub record RunSoFar (has : Has) (count : ℕ) (input : Change SourceState) (out : Change ByteState) : Type 0 where
   pub bytes : List ℕ
   pub output : List Output
   pub counted : length bytes ≡ count
@@ -32,7 +32,7 @@ pub record RunSoFar (has : Has) (count : ℕ) (input out : Change ByteState) : T
   pub write : Writes out (texts_of output)
 
 pub run_begins :
-    (has : Has) (i o : ByteState) → has [] [] → RunSoFar has 0 (change i i) (change o o)
+    (has : Has) (i : SourceState) (o : ByteState) → has [] [] → RunSoFar has 0 (change i i) (change o o)
 run_begins has i o there = record {
   bytes = [];
   output = [];
@@ -98,7 +98,7 @@ module _ {A : Type 0} (c : Commands A) (a : A) where
   -- ---- without an input
 
   pub run_alone :
-      (has : Has) (i o p : ByteState) (result : Result Bool Error) → (c.Reads a → ⊥) → has [] []
+      (has : Has) (i : SourceState) (o p : ByteState) (result : Result Bool Error) → (c.Reads a → ⊥) → has [] []
       → EndsAt c a has (change o p) result → Runs c a (change i i) (change o p) result
   run_alone has i o p result unread there ends =
       let (holds, last) = ends [] [] there in
@@ -120,7 +120,7 @@ module _ {A : Type 0} (c : Commands A) (a : A) where
 
   -- If memory ran out before any byte of the input was read, then the run satisfies `Runs`.
   pub run_without_memory :
-      c.Reads a → (i o : ByteState) → HaveNoExit c a [] []
+      c.Reads a → (i : SourceState) (o : ByteState) → HaveNoExit c a [] []
       → Runs c a (change i i) (change o o) (Err (aborts.Exit out_of_memory))
   run_without_memory reads i o holds = record {
     taken = taken [] unasked;
@@ -130,7 +130,7 @@ module _ {A : Type 0} (c : Commands A) (a : A) where
     ends = (inr refl, writes_nothing o);
   }
 
-  module _ (reads : c.Reads a) (has : Has) (count : ℕ) (i j o p : ByteState)
+  module _ (reads : c.Reads a) (has : Has) (count : ℕ) (i j : SourceState) (o p : ByteState)
       (s : RunSoFar has count (change i j) (change o p)) where
     few : count < 2 ^ 48 → length s.bytes < 2 ^ 48
     few short = let counted = s.counted in omega (arith, counted, short)
@@ -155,7 +155,7 @@ module _ {A : Type 0} (c : Commands A) (a : A) where
           ends = (inl (closed holds at_length (exits too_long) (inr (holds.goes_on, refl))), s.write);
         }
 
-    module _ {E : Type 0} (k : ByteState) (buffer : List ℕ) (short : count < 2 ^ 48) where
+    module _ {E : Type 0} (k : SourceState) (buffer : List ℕ) (short : count < 2 ^ 48) where
       pub run_fault :
           HaveNoExit c a s.bytes s.output → (e : E) → TakesPrefix {E = E} j k (Err e) buffer
           → Runs c a (change i k) (change o p) (Err (aborts.Exit read_fault))
@@ -182,12 +182,12 @@ module _ {A : Type 0} (c : Commands A) (a : A) where
                 o p q result s.write last;
           }
 
-      module _ (chunk : length buffer ≤ chunk_limit) (n : ℕ) (fits : n ≤ length buffer)
+      module _ (chunk : length buffer ≤ chunk_limit) (n : ℕ) (some : 0 < n) (fits : n ≤ length buffer)
           (moved : TakesPrefix {E = E} j k (Ok n) buffer) (are_bytes : AreBytes (take n buffer))
           (q : ByteState) where
         more_taken : Gathers (change i k) (taken (s.bytes ++ take n buffer) unasked)
         more_taken =
-            took_more i j k s.bytes buffer s.gathers n (few short) chunk moved are_bytes
+            took_more i j k s.bytes buffer s.gathers n some (few short) chunk moved are_bytes
 
         pub run_more :
             (after : Has) → FeedsAll c a {U = Unit {0}} has after (take n buffer) (change p q) (Ok tt)

@@ -4,7 +4,7 @@ use Rattle.cli_spec.specs.Outcome.{Taken, nothing, Output, outputs, exits, repli
 use Rattle.cli_spec.specs.Outcome.{all_ok}
 use Rattle.cli_spec.specs.declared.exit.Exit.TheVariants.{Memory as out_of_memory}
 use Rattle.base_io.specs.Sink.{Writes}
-use Rattle.base_io.specs.StreamState.{ByteState, Change}
+use Rattle.base_io.specs.StreamState.{ByteState, SourceState, Change}
 use Rattle.cli_errors.specs.declared.exit_line.Error.{Error}
 use Rattle.cli_errors.specs.declared.exit_line.Error.TheVariants as aborts
 use Rattle.run_spec.specs.runs.Account.{IsPaced}
@@ -38,7 +38,8 @@ module _ {A : Type 0} (c : Commands A) (a : A) where
       × WritesPartAfter out (texts_of output) next.text
 
   -- The input is read chunk by chunk, and the outputs for the items of the input are written.
-  pub record Runs (input out : Change ByteState) (result : Result Bool Error) : Type 0 where
+  pub record Runs (input : Change SourceState) (out : Change ByteState)
+      (result : Result Bool Error) : Type 0 where
     pub taken : Taken
     pub gathers : Gathers input taken
     pub output : List Output

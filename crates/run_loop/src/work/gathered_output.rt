@@ -32,6 +32,8 @@ impl Sink for MemorySink {
             Err(_) => Err(Failed),
         }
     }
+
+    fn knows_bytes(&self) {}
 }
 
 /// Consumes some of the current bytes. If an item ends with the consumed bytes, appends the output

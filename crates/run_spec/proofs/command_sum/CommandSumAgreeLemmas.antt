@@ -2,15 +2,16 @@
 -- run by one set implies the specification by the second.
 use Rattle.std.proofs.Common.{◌≡◌, ◌⊎◌, ◌++◌, ◌∷◌, ℕ, suc, List, [], Ok, Err, inl, inr, ap}
 use Rattle.std.specs.Prelude.{◌↔◌}
+use Rattle.base_io.specs.History.{bytes_of}
 use Rattle.base_io.specs.StreamState.{FilesState, Change, change}
-use Rattle.cli_spec.specs.Outcome.{ReadingEnd, at_end, at_fault, at_length, unasked, Taken, Request, Asks, Output, Reply, outputs, exits, Replies, replies}
+use Rattle.cli_spec.specs.Outcome.{ReadingEnd, at_end, at_fault, at_length, unasked, Taken, whole, Request, Asks, Output, Reply, outputs, exits, Replies, replies}
 use Rattle.cli_spec.specs.declared.exit.Exit.{Exit}
 use Rattle.cli_spec.specs.declared.exit.Exit.TheVariants.{Finished as finished, Memory as out_of_memory}
 use Rattle.run_spec.specs.runs.Account.{IsWanted, FetchesIn, FetchesFor, MayBe, HaveNoExit, IsFinishedBehind, IsPaced, IsOutputFirst, OutputsOfFirst, Completes, Breaks, Account}
+use Rattle.run_spec.specs.runs.Answered.{IsAnswered}
 use Rattle.run_spec.specs.runs.Call.{Call}
 use Rattle.run_spec.specs.runs.Commands.{Item, Fetches, Given, Commands, Prepares, Split, AllPrint, OutputsFirst, GoesOn, Closes, IsLast, Answers, RunReplies}
-use Rattle.run_spec.specs.runs.RunSpec.{IsOfOutcome, RunSpec}
-use Rattle.run_spec.specs.runs.Environment.{IsWriteOrMemoryError}
+use Rattle.run_spec.specs.runs.RunSpec.{RunSpec}
 
 -- The tasks `a` and `b` have equal outputs for each input.
 pub record Agrees {A B : Type 0} (c : Commands A) (d : Commands B) (a : A) (b : B) : Type 0 where
@@ -302,28 +303,33 @@ module _ {A B : Type 0} (c : Commands A) (d : Commands B) where
               next (inl s) = inl (outputs_of_first_too h.given (h.output ++ b.next ∷ []) s)
               next (inr r) = inr (replies_too h.given (replies h.output (outputs b.next)) r)
 
-      pub run_spec_too : RunSpec c arguments call → RunSpec d arguments call
-      run_spec_too p = record {
-        account = account_too p.account;
-        headline = λ input files honest some.
-            let o = p.headline input files honest some in
-            record {
-              all = o.all;
-              outcome = replies_too _ o.all o.outcome;
-              out = o.out;
-              err = o.err;
-              status = o.status;
-            };
-        status = from p.status;
-        faults = p.faults;
-      } where
-        from : IsOfOutcome c arguments call call.status ⊎ IsWriteOrMemoryError call.status
-            → IsOfOutcome d arguments call call.status ⊎ IsWriteOrMemoryError call.status
-        from (inl o) = inl (record {
-          given = o.given;
-          may_be = may_be_too o.given o.may_be;
-          all = o.all;
-          outcome = replies_too o.given o.all o.outcome;
-          is = o.is;
-        })
-        from (inr u) = inr u
+module _ {A B : Type 0} (c : Commands A) (d : Commands B) (arguments : List (List ℕ))
+    (agreement : Agree c d (Asks arguments)) (call : Call) where
+  -- If `c` has only one answer to what was provided, then `d` has only this answer.
+  answered_too : (given : Given) → IsAnswered c arguments call given → IsAnswered d arguments call given
+  answered_too given a = record {
+    all = a.all;
+    outcome = replies_too c d arguments agreement call given a.all a.outcome;
+    only =
+        λ other is.
+        let back = agree_back c d (Asks arguments) agreement in
+        a.only other (replies_too d c arguments back call given other is);
+    out = a.out;
+    err = a.err;
+    status = a.status;
+  }
+
+  pub run_spec_too : RunSpec c arguments call → RunSpec d arguments call
+  run_spec_too p = record {
+    account = account_too c d arguments agreement call p.account;
+    answered =
+        λ unbroken.
+        let g = p.answered unbroken in
+        (g.0, may_be_too c d arguments agreement call g.0 g.1, answered_too g.0 g.2);
+    whole =
+        λ unbroken new are ended.
+        let g = p.whole unbroken new are ended in
+        let given : Given = record { files = g.0; input = whole (bytes_of new) } in
+        (g.0, may_be_too c d arguments agreement call given g.1, answered_too given g.2);
+    faults = p.faults;
+  }

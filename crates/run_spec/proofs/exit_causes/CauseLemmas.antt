@@ -1,5 +1,5 @@
 -- Each status has its cause, and each cause leads to its status, by the specification of a run.
-use Rattle.std.proofs.Common.{◌≡◌, ◌≢◌, ◌⊎◌, ◌^◌, ℕ, List, take, Option, Some, None, Result, Ok, Err, inl, inr, refl, sym, ap, ◌∙◌, subst}
+use Rattle.std.proofs.Common.{◌≡◌, ◌≢◌, ◌⊎◌, ◌^◌, ℕ, List, [], append-nil, take, Option, Some, None, Result, Ok, Err, inl, inr, refl, sym, ap, ◌∙◌, subst}
 use Rattle.std.specs.Prelude.{◌↔◌, IfSome}
 use Rattle.base_data.specs.model.Bytes.{AreBytes}
 use Rattle.cli_spec.specs.declared.status.Status.{Status}
@@ -8,20 +8,23 @@ use Rattle.cli_spec.specs.Outcome.{ReadingEnd, at_end, at_fault, at_length, unas
 use Rattle.cli_spec.specs.declared.exit.Exit.{Exit}
 use Rattle.cli_spec.specs.declared.exit.Exit.TheVariants.{Usage as usage, BadPath as bad_path, ReadFault as read_fault, TooLong as too_long}
 use Rattle.base_io.specs.Files.{File, contents_of}
+use Rattle.base_io.specs.History.{bytes_of}
 use Rattle.run_spec.specs.runs.Account.{MayBe}
+use Rattle.run_spec.specs.runs.Answered.{AnswersWhole}
 use Rattle.run_spec.specs.runs.Call.{Call}
-use Rattle.run_spec.specs.runs.RunCauses.{AreAsKnown, AreMeant, IfArguments, IfFiles, IsDecided, IsExact}
-use Rattle.run_spec.specs.runs.Commands.{Fetches, Given, Commands, GoesOn, Closes, Prepares, HaveExit, IsLast, OutputsAll, Answers, RunReplies, Outcome}
+use Rattle.run_spec.specs.runs.RunCauses.{AreAsKnown, AreMeant, IfArguments, IfFiles, IsDecided}
+use Rattle.run_spec.specs.runs.Commands.{Fetches, Given, Commands, GoesOn, Closes, Prepares, HaveExit, IsLast, OutputsAll, Answers, RunReplies}
 use Rattle.run_spec.specs.runs.Given.{IsFoundOf, ReportsBytes}
 use Rattle.run_spec.specs.runs.Lawful.{AreLawful}
-use Rattle.run_spec.specs.runs.Environment.{IsHonest, IsWriteOrMemoryError, IsEnvironment}
+use Rattle.run_spec.specs.runs.Environment.{IsWriteOrMemoryError, IsEnvironment}
 use Rattle.run_spec.specs.runs.RunSpec.{known_files, HoldEnd, HasOutcome, Headline, ExitsBefore, Means, IfExit, IfEnd, IfUsage}
+use Rattle.run_spec.proofs.runs.CallLemmas.{input_of}
 use Rattle.run_spec.proofs.runs.RunFileLemmas.{all_of}
-use Rattle.run_spec.proofs.runs.RunOnceLemmas.{prepares_once}
-use Rattle.run_spec.proofs.runs.OutcomeLemmas.{is_memory}
+use Rattle.run_spec.proofs.runs.RunOnceLemmas.{prepares_once, replies_once}
+use Rattle.run_spec.proofs.runs.OutcomeLemmas.{is_memory, answers_of}
 use Rattle.run_spec.proofs.runs.RunSettledLemmas.{Goes, IsStatus, settled, exit_status}
 use Rattle.run_spec.proofs.runs.RunKnownLemmas.{lawful_at, either, exit_comes, end_comes}
-use Rattle.run_spec.specs.exit_causes.Causes.{Tables, AreExact, Show, IsBarred, IsCaused, OnlyCaused, IfBadArguments, IfBarred, IsToBeDone, IfShown, IsDue, HasWhatIsDue}
+use Rattle.run_spec.specs.exit_causes.Causes.{Tables, AreExact, Show, IsBarred, IsCaused, OnlyCaused, IfBadArguments, IfBarred, IsToBeDone, IfShown, IsDue, HasWhatIsDue, HasWhatIsDueAtEnd}
 use Rattle.run_spec.proofs.exit_causes.ExitCauseTableLemmas.{bar_of, bar_found, exit_with, exit_held, end_with, end_held, shows_given, gives_shown}
 
 -- If a file was read completely, then the text read is the whole text that the file map has for the
@@ -122,6 +125,8 @@ module _ {A : Type 0} (c : Commands A) (tables : Tables A) (exact : AreExact c t
           p,
           given.input.bytes,
           known,
+          input_of call.input given.input may_be.input.called given.input.bytes []
+              (sym (append-nil given.input.bytes)) (λ e. refl),
           (may_be.input.are_bytes, shown a given.input all s may_be.input.are_bytes not_read not_long),
         ))
     inconclusive given may_be known all (Err exit, (Ok request, asks, finds), m) not_read not_long =
@@ -147,7 +152,7 @@ module _ {A : Type 0} (c : Commands A) (tables : Tables A) (exact : AreExact c t
               → Means c arguments call status → IsCaused c tables arguments call status
           caused bytes known (inl none) = inl none
           caused bytes known (inr (inl before)) = inr (inl (barred status as_known before))
-          caused bytes known (inr (inr (found, files, a, prepared, input, is, gives))) =
+          caused bytes known (inr (inr (found, files, a, prepared, input, is, begins, gives))) =
               let same : bytes ≡ input = rw known at is in
               let are_bytes : AreBytes bytes = rw known at reports in
               inr (inr (
@@ -157,6 +162,7 @@ module _ {A : Type 0} (c : Commands A) (tables : Tables A) (exact : AreExact c t
                 prepared,
                 input,
                 is,
+                begins,
                 (subst AreBytes same are_bytes, shows_given c tables exact a input status (subst AreBytes same are_bytes) gives),
               ))
 
@@ -294,64 +300,88 @@ module _ {A : Type 0} (c : Commands A) (tables : Tables A) (exact : AreExact c t
               input = is_known;
             }) short_bytes e.2)
 
-  -- ---- a fault-free run
+  -- ---- a whole input
 
-  module _ (input : List ℕ) (files : List File) where
+  module _ (input : List ℕ) (found : Fetches) (are_bytes : AreBytes input) where
+    abbrev provided : Given
+    provided = record { files = found; input = whole input }
+
     -- If the replies `all` are an outcome, then `IsDue` holds for the status of the replies.
     due_of :
-        AreBytes input → (all : Replies) → Outcome c arguments (contents_of files) input all
-        → IsDue c tables arguments input (known_files files) (ending_of all).status
-    due_of are_bytes all (Ok a, prepared, inr alone) = absurd (alone.unread (exact.read a))
-    due_of are_bytes all (Ok a, prepared, inl (reads, s)) = inr (inr (a, prepared, by s.last)) where
+        (all : Replies) → RunReplies c arguments provided all
+        → IsDue c tables arguments input found (ending_of all).status
+    due_of all (Ok a, prepared, inr alone) = absurd (alone.unread (exact.read a))
+    due_of all (Ok a, prepared, inl (reads, s)) = inr (inr (a, prepared, by s.last)) where
       by : IsLast c a s.items s.rest at_end all.last
           → Show c tables a input (ending_of all).status
       by (inl (exit, at, fine, is)) = exit_shown a (whole input) all s are_bytes exit at is
       by (inr (on, closes)) = end_shown a (whole input) all s are_bytes on closes
-    due_of are_bytes all (Err exit, (Ok request, asks, finds), m) =
+    due_of all (Err exit, (Ok request, asks, finds), m) =
         inr (inl (
           request,
           asks,
-          subst (tables.Bar request (known_files files)) (sym (ap (λ all. (ending_of all).status) m))
-              (bar_of c tables exact request (known_files files) exit finds),
+          subst (tables.Bar request found) (sym (ap (λ all. (ending_of all).status) m))
+              (bar_of c tables exact request found exit finds),
         ))
-    due_of are_bytes all (Err other, (Err exit, (none, is), same), m) =
+    due_of all (Err other, (Err exit, (none, is), same), m) =
         let e : other ≡ usage = (let k : other ≡ exit = cc same in k ∙ is) in
         inl (none, ap (λ all. (ending_of all).status) m ∙ ap status_of e)
 
-    -- If `IsDue` holds for a status, then a fault-free run has the status, unless memory ran out.
-    due_comes :
-        (honest : IsHonest call input files) → ReportsBytes call.input
-        → call.status ≢ statuses.Memory → IsDecided c arguments call
-        → IsExact c arguments call → (status : Status)
-        → IsDue c tables arguments input (known_files files) status → call.status ≡ status
-    due_comes honest reports some decided is_exact status (inl (none, is)) =
-        decided input files honest some (stopped usage) (Err usage, (Err usage, (none, refl), refl), refl)
-        ∙ sym is
-    due_comes honest reports some decided is_exact status (inr (inl (request, asks, bar))) =
-        let s = bar_found c tables exact request (known_files files) status bar in
-        decided input files honest some (stopped s.0) (Err s.0, (Ok request, asks, s.2), refl) ∙ s.1
-    due_comes honest reports some decided is_exact status (inr (inr (a, prepared, shows))) =
-        let are_bytes : AreBytes input = rw honest.ok_read.input_known at reports in
-        is_exact input files honest some a status prepared
-        (gives_shown c tables exact a input status are_bytes shows)
+    -- If `IsDue` holds for a status, then an outcome has the status.
+    due_outcome :
+        (status : Status) → IsDue c tables arguments input found status
+        → (all : Replies) × RunReplies c arguments provided all × ((ending_of all).status ≡ status)
+    due_outcome status (inl (none, is)) =
+        (stopped usage, (Err usage, (Err usage, (none, refl), refl), refl), sym is)
+    due_outcome status (inr (inl (request, asks, bar))) =
+        let s = bar_found c tables exact request found status bar in
+        (stopped s.0, (Err s.0, (Ok request, asks, s.2), refl), s.1)
+    due_outcome status (inr (inr (a, prepared, shows))) =
+        let o = answers_of c a input status (gives_shown c tables exact a input status are_bytes shows) in
+        (o.0, (Ok a, prepared, o.1), o.2)
+
+  -- A run that found the end of its input has the status that the bytes of its calls determine.
+  pub due_at_end :
+      AreLawful c → AnswersWhole c arguments call → HasWhatIsDueAtEnd c tables arguments call
+  due_at_end lawful answers unbroken new are ended =
+      let g = answers unbroken new are ended in
+      let input : List ℕ = bytes_of new in
+      let are_bytes : AreBytes input = g.1.input.are_bytes in (
+        g.0,
+        g.1.files,
+        λ status. (
+          λ e. subst (IsDue c tables arguments input g.0) (sym g.2.status ∙ e)
+              (due_of input g.0 are_bytes g.2.all g.2.outcome),
+          λ due.
+              let o = due_outcome input g.0 are_bytes status due in
+              let same : g.2.all ≡ o.0 =
+              replies_once c lawful arguments (provided input g.0 are_bytes) are_bytes g.2.all o.0 g.2.outcome o.1 in
+              g.2.status ∙ (ap (λ (all : Replies). (ending_of all).status) same ∙ o.2),
+        ),
+      )
+
+  -- ---- a fault-free run
 
   pub due :
-      ReportsBytes call.input → Headline c arguments call
-      → IsDecided c arguments call → IsExact c arguments call
+      ReportsBytes call.input → Headline c arguments call → IsDecided c arguments call
       → HasWhatIsDue c tables arguments call
-  due reports headline decided is_exact input files honest = by (is_memory call.status) where
+  due reports headline decided input files honest = by (is_memory call.status) where
+    are_bytes : AreBytes input
+    are_bytes = rw honest.ok_read.input_known at reports
+
     by : (call.status ≡ statuses.Memory) ⊎ (call.status ≢ statuses.Memory)
         → (call.status ≡ statuses.Memory)
         ⊎ ((status : Status) → (call.status ≡ status) ↔ IsDue c tables arguments input (known_files files) status)
     by (inl memory) = inl memory
     by (inr some) = inr (λ status. (
       λ e. comes status e (headline input files honest some),
-      due_comes input files honest reports some decided is_exact status,
+      λ due.
+          let o = due_outcome input (known_files files) are_bytes status due in
+          decided input files honest some o.0 o.1 ∙ o.2,
     )) where
       comes : (status : Status) → call.status ≡ status
           → HasOutcome c arguments call input files
           → IsDue c tables arguments input (known_files files) status
       comes status e o =
-          subst (IsDue c tables arguments input (known_files files)) (sym o.status ∙ e) (due_of input files are_bytes o.all o.outcome) where
-            are_bytes : AreBytes input
-            are_bytes = rw honest.ok_read.input_known at reports
+          subst (IsDue c tables arguments input (known_files files)) (sym o.status ∙ e)
+          (due_of input (known_files files) are_bytes o.all o.outcome)

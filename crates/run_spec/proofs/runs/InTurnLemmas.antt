@@ -19,7 +19,8 @@ use Rattle.run_spec.specs.runs.Given.{IsFoundOf, IsMeasuredFile, has_open_fault}
 use Rattle.run_spec.specs.runs.Lawful.{AreLawful, AreInTurns}
 use Rattle.run_spec.specs.runs.Environment.{IsWriteOrMemoryError, IsEnvironment, CannotOpen}
 use Rattle.run_spec.specs.runs.RunSpec.{known_files}
-use Rattle.run_spec.proofs.runs.RunFileLemmas.{IsFault, whole_known, fault_environment, found_in, measured_in, missing_known, opening_failed, fault_named}
+use Rattle.run_spec.proofs.runs.FailedLemmas.{open_fails_at}
+use Rattle.run_spec.proofs.runs.RunFileLemmas.{IsFault, whole_known, fault_environment, found_in, measured_in, missing_known}
 use Rattle.run_spec.proofs.runs.RunSettledLemmas.{Goes, IsOuter, reply_inside, exit_status, open_output, Cause, by_reply, by_file, by_input, cause_of, IsStatus, settled, if_arguments}
 use Rattle.run_spec.proofs.runs.RunKnownLemmas.{IsFaultOrLong, long_faults}
 
@@ -438,16 +439,6 @@ module _ {A : Type 0} (c : Commands A) (arguments : List (List ℕ)) (call : Cal
     wanted : IsWanted c arguments given.files turn name
     wanted = record { request = request; asks = asks; wants = wants }
 
-    -- Nothing is requested after a file that failed to open.
-    none_later :
-        given.files turn name ≡ failed → (later : ℕ) (other : List ℕ) → turn < later
-        → IsWanted c arguments given.files later other → ⊥
-    none_later e later other less also =
-        let read = turns.after_read request given.files turn later name other less wants
-        (subst (λ q. c.Wants q given.files later other)
-        (one_request arguments also.request request also.asks asks) also.wants) in
-        let never : failed ≡ opened (whole read.0) = sym e ∙ read.1 in cc never
-
     not_there :
         given.files turn name ≡ missing → (m : Option (List File)) → call.files.before.map ≡ m
         → IsSome m → IsSomeAnd m (λ all. contents_of all name ≡ None)
@@ -463,12 +454,8 @@ module _ {A : Type 0} (c : Commands A) (arguments : List (List ℕ)) (call : Cal
         inr (not_there e call.files.before.map refl
         (missing_known c arguments call.files given.files may_be.files lawful turn name wanted e))
     cannot (inr e) =
-        inl (
-          opening_failed c arguments call.files given.files may_be.files lawful turn name wanted
-              (ap has_open_fault e),
-          fault_named c arguments call.files given.files may_be.files lawful turn name wanted
-              (none_later e) e,
-        )
+        inl (open_fails_at c arguments call.files given.files may_be.files lawful turn name wanted
+        (ap has_open_fault e))
 
   pub only_open_fault : IsStatus c arguments call → OnlyOpenFault c arguments call
   only_open_fault (inr write_or_memory_error) e = absurd (open_output (subst IsWriteOrMemoryError e write_or_memory_error))

@@ -1,5 +1,5 @@
 -- The meaning of a status, from the outcome that has it.
-use Rattle.std.proofs.Common.{◌≡◌, ◌≢◌, ℕ, List, Option, Some, None, IfSome, Result, Ok, Err, inl, inr, refl, sym, ap, ◌∙◌, subst}
+use Rattle.std.proofs.Common.{◌≡◌, ◌≢◌, ℕ, List, [], append-nil, Option, Some, None, IfSome, Result, Ok, Err, inl, inr, refl, sym, ap, ◌∙◌, subst}
 use Rattle.cli_spec.specs.declared.status.Status.{Status}
 use Rattle.cli_spec.specs.declared.status.Status.TheVariants as statuses
 use Rattle.cli_spec.specs.Outcome.{ReadingEnd, at_end, at_fault, at_length, unasked, Taken, status_of, ending_of, exits, Replies}
@@ -8,10 +8,11 @@ use Rattle.cli_spec.specs.declared.exit.Exit.TheVariants.{Usage as usage, ReadFa
 use Rattle.run_spec.specs.runs.Account.{MayBe}
 use Rattle.run_spec.specs.runs.Call.{Call}
 use Rattle.run_spec.specs.runs.Commands.{Given, Commands, GoesOn, HaveExit, IsLast, Closes, OutputsAll, Answers, RunReplies}
-use Rattle.run_spec.specs.runs.Given.{TakesFrom, Gathers}
+use Rattle.run_spec.specs.runs.Given.{TakesFrom, IsInputOf, Gathers}
 use Rattle.run_spec.specs.runs.Lawful.{AreLawfulAt, AreLawful}
 use Rattle.run_spec.specs.runs.Environment.{IsWriteOrMemoryError}
 use Rattle.run_spec.specs.runs.RunSpec.{HoldEnd, Gives, Means, OnlyMeant}
+use Rattle.run_spec.proofs.runs.CallLemmas.{input_of}
 use Rattle.run_spec.proofs.runs.RunFileLemmas.{all_of}
 use Rattle.run_spec.proofs.runs.HoldLemmas.{hold_stays}
 use Rattle.run_spec.proofs.runs.RunSettledLemmas.{Goes, IsStatus, exit_status}
@@ -21,7 +22,8 @@ module _ (call : Call) where
   -- unknown.
   abbrev IsOfInput : (List ℕ → Type 0) → Type 0
   IsOfInput Holds =
-      (input : List ℕ) × IfSome call.input.before.bytes (λ bytes. bytes ≡ input) × Holds input
+      (input : List ℕ) × IfSome call.input.before.bytes (λ bytes. bytes ≡ input)
+      × IsInputOf call.input input × Holds input
 
   of_input :
       (taken : Taken) → Gathers call.input taken → (Holds : List ℕ → Type 0) → Holds taken.bytes
@@ -30,9 +32,19 @@ module _ (call : Call) where
     go : (o : Option (List ℕ))
         → IfSome o (λ bytes. (rest : List ℕ) × TakesFrom bytes taken rest
         × (call.input.after.bytes ≡ Some rest))
-        → (input : List ℕ) × IfSome o (λ bytes. bytes ≡ input) × Holds input
-    go None known = (taken.bytes, tt, here)
-    go (Some bytes) known = (bytes, refl, left bytes known.0 known.1)
+        → (input : List ℕ) × IfSome o (λ bytes. bytes ≡ input) × IsInputOf call.input input × Holds input
+    go None known = (
+      taken.bytes,
+      tt,
+      input_of call.input taken took.called taken.bytes [] (sym (append-nil taken.bytes)) (λ e. refl),
+      here,
+    )
+    go (Some bytes) known = (
+      bytes,
+      refl,
+      input_of call.input taken took.called bytes known.0 known.1.prefix known.1.ends,
+      left bytes known.0 known.1,
+    )
 
   module _ {A : Type 0} (c : Commands A) (a : A) (law : AreLawfulAt c a) (taken : Taken)
       (took : Gathers call.input taken) (all : Replies) where
@@ -109,7 +121,7 @@ module _ {A : Type 0} (c : Commands A) (arguments : List (List ℕ)) (call : Cal
         by (Ok a) finds answers =
             let h = given_by call c a (lawful.at a (request, given.files, finds)) given.input may_be.input
             all not_read not_long answers in
-            inr (inr (given.files, may_be.files, a, (Ok request, asks, finds), h.0, h.1, h.2))
+            inr (inr (given.files, may_be.files, a, (Ok request, asks, finds), h.0, h.1, h.2, h.3))
   means_of given may_be all (Ok a, (Err exit, reads, same), m) not_read not_long = absurd (cc same)
   means_of given may_be all (Err other, (Err exit, (none, is), same), m) not_read not_long =
       let e : other ≡ usage = (let k : other ≡ exit = cc same in k ∙ is) in

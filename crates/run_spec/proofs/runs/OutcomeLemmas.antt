@@ -7,21 +7,20 @@ use Rattle.cli_spec.specs.declared.status.Status.{Status}
 use Rattle.cli_spec.specs.declared.status.Status.TheVariants as statuses
 use Rattle.cli_spec.specs.Outcome.{ReadingEnd, at_end, at_fault, at_length, unasked, whole, ending_of, ReadsFile, exits, Replies, replies, stopped}
 use Rattle.cli_spec.specs.declared.exit.Exit.{Exit}
-use Rattle.cli_spec.specs.declared.exit.Exit.TheVariants.{Memory as out_of_memory}
 use Rattle.base_io.specs.Files.{File, contents_of}
-use Rattle.run_spec.specs.runs.Account.{IsWanted, MayBe, Completes, Breaks, Account}
+use Rattle.run_spec.specs.runs.Account.{IsWanted, MayBe}
 use Rattle.run_spec.specs.runs.Call.{Call}
 use Rattle.run_spec.specs.runs.RunCauses.{IsDecided, IsExact, IsComplete}
 use Rattle.run_spec.specs.runs.Commands.{Given, Commands, Prepares, GoesOn, IsLast, Closes, OutputsAll, Answers, RunReplies, Outcome}
-use Rattle.run_spec.specs.runs.Given.{TakesFrom, ReportsBytes, IsMeasured}
+use Rattle.run_spec.specs.runs.Given.{TakesFrom, ReportsBytes, IsMeasured, is_fault}
 use Rattle.run_spec.specs.runs.Lawful.{IsWhole, AreLawfulAt, AreLawful}
-use Rattle.run_spec.specs.runs.Environment.{WritesLine, IsOkRead}
-use Rattle.run_spec.specs.runs.RunSpec.{known_files, HasOutcome, Headline}
-use Rattle.run_spec.proofs.runs.RunFileLemmas.{all_of, not_shorter, whole_known, ok_known, found_in, measured_in, opening_failed, reading_failed}
+use Rattle.run_spec.specs.runs.Environment.{IsOkRead}
+use Rattle.run_spec.specs.runs.RunSpec.{known_files, Headline, Gives}
+use Rattle.run_spec.proofs.runs.RunFileLemmas.{all_of, not_shorter, whole_known, ok_known, found_in, measured_in}
+use Rattle.run_spec.proofs.runs.FailedLemmas.{took_fails, read_fails, open_fails}
 use Rattle.run_spec.proofs.runs.HoldLemmas.{first_stays}
 use Rattle.run_spec.proofs.runs.RunOnceLemmas.{replies_once}
-use Rattle.run_spec.proofs.runs.RunWriteLemmas.{rose_after}
-use Rattle.run_spec.proofs.runs.RunSettledLemmas.{Goes, exit_status}
+use Rattle.run_spec.proofs.runs.RunSettledLemmas.{Goes}
 use Rattle.run_spec.proofs.runs.RunKnownLemmas.{lawful_at}
 
 pub is_memory : (s : Status) → (s ≡ statuses.Memory) ⊎ (s ≢ statuses.Memory)
@@ -61,9 +60,9 @@ module _ {A : Type 0} (c : Commands A) (arguments : List (List ℕ)) (call : Cal
       (measured_in c arguments call.files given.files may_be.files lawful turn name wanted)
       (λ bytes is. ok.files_short name bytes is)
       (λ e. ok.opens
-      (opening_failed c arguments call.files given.files may_be.files lawful turn name wanted e))
+      (open_fails c arguments call.files given.files may_be.files lawful (turn, name, wanted, e)))
       (λ e. ok.reads
-      (reading_failed c arguments call.files given.files may_be.files lawful turn name wanted e))
+      (read_fails c arguments call.files given.files may_be.files lawful (turn, name, wanted, e)))
       exit fault
 
   -- If the task was prepared from the files of the run, then the known files determine the task.
@@ -101,7 +100,7 @@ module _ {A : Type 0} (c : Commands A) (arguments : List (List ℕ)) (call : Cal
           subst (λ b. OutputsAll c a (whole b) all)
           (sym (all_of input given.input rest taken_rest.1 e))
           (record { items = s.items; rest = s.rest; first = s.first; last = inr (on, closes) })
-      closed at_fault e on closes = absurd (ok.takes (rw e at may_be.input.cause).rose)
+      closed at_fault e on closes = absurd (ok.takes (took_fails call.input.before.calls call.input.after.calls given.input may_be.input.called (ap is_fault e)))
       closed at_length e on closes =
           let m : IsMeasured at_length (length given.input.bytes) =
           subst (λ u. IsMeasured u (length given.input.bytes)) e may_be.input.measured in
@@ -132,34 +131,40 @@ module _ {A : Type 0} (c : Commands A) (arguments : List (List ℕ)) (call : Cal
     goes (Ok a) p m = answers_known a (lawful_at c arguments call lawful given.files a p) all m
     goes (Err exit) p m = m
 
+-- If the input determines a status, then replies with the status answer the input.
+pub answers_of :
+    {A : Type 0} (c : Commands A) (a : A) (input : List ℕ) (status : Status) → Gives c a input status
+    → (all : Replies) × Answers c a (whole input) all × ((ending_of all).status ≡ status)
+answers_of c a input status (inl (reads, exit, is, h)) = (
+  replies h.output (exits exit),
+  inl (
+    reads,
+    record {
+      items = h.items;
+      rest = h.rest;
+      first = h.first;
+      last = inl (exit, h.at, refl, refl);
+    },
+  ),
+  is,
+)
+answers_of c a input status (inr (all, is, inl (reads, h))) = (
+  all,
+  inl (
+    reads,
+    record {
+      items = h.items;
+      rest = h.rest;
+      first = h.first;
+      last = inr (h.goes_on, h.ends);
+    },
+  ),
+  is,
+)
+answers_of c a input status (inr (all, is, inr alone)) = (all, inr alone, is)
+
 module _ {A : Type 0} (c : Commands A) (arguments : List (List ℕ)) (call : Call)
     (lawful : AreLawful c) where
-  pub headline : Account c arguments call → Headline c arguments call
-  headline a input files honest not_memory = go a.ends where
-    go : Completes c arguments a.given a.output call ⊎ Breaks c arguments a.given a.output call
-        → HasOutcome c arguments call input files
-    go (inr b) =
-        absurd (honest.out (rose_after call.out.before.faults b.out.0.faults call.out.after.faults
-        b.out.1.cause b.out.2.cause))
-    go (inl e) = write e.line where
-      write : WritesLine call.err call.status (ending_of (replies a.output e.last))
-          → HasOutcome c arguments call input files
-      write (inr part) = absurd (honest.err part.0.cause.rose)
-      write (inl line) = may e.may_end where
-        may : RunReplies c arguments a.given (replies a.output e.last) ⊎ (e.last ≡ exits out_of_memory)
-            → HasOutcome c arguments call input files
-        may (inl r) = record {
-          all = replies a.output e.last;
-          outcome = outcome_known c arguments call lawful input files honest.ok_read a.given a.may_be
-              (replies a.output e.last) r;
-          out = e.out;
-          err = line.0;
-          status = line.1;
-        }
-        may (inr memory) =
-            absurd (not_memory
-            (line.1 ∙ exit_status (replies a.output e.last) out_of_memory memory))
-
   -- ---- a fault-free run
 
   module _ (reports : ReportsBytes call.input) (line : Headline c arguments call) where
@@ -173,25 +178,9 @@ module _ {A : Type 0} (c : Commands A) (arguments : List (List ℕ)) (call : Cal
         o.status ∙ ap (λ all. (ending_of all).status) same
 
     pub exact : IsExact c arguments call
-    exact input files honest some a status prepared (inl (reads, exit, is, h)) =
-        let output : OutputsAll c a (whole input) (replies h.output (exits exit)) = record {
-          items = h.items;
-          rest = h.rest;
-          first = h.first;
-          last = inl (exit, h.at, refl, refl);
-        } in
-        decided input files honest some (replies h.output (exits exit))
-        (Ok a, prepared, inl (reads, output)) ∙ is
-    exact input files honest some a status prepared (inr (all, is, inl (reads, h))) =
-        let output : OutputsAll c a (whole input) all = record {
-          items = h.items;
-          rest = h.rest;
-          first = h.first;
-          last = inr (h.goes_on, h.ends);
-        } in
-        decided input files honest some all (Ok a, prepared, inl (reads, output)) ∙ is
-    exact input files honest some a status prepared (inr (all, is, inr alone)) =
-        decided input files honest some all (Ok a, prepared, inr alone) ∙ is
+    exact input files honest some a status prepared gives =
+        let o = answers_of c a input status gives in
+        decided input files honest some o.0 (Ok a, prepared, o.1) ∙ o.2
 
     pub complete : IsComplete c arguments call
     complete input files honest a prepared given = decide (is_memory call.status) where

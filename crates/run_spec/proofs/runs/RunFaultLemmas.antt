@@ -1,6 +1,6 @@
 -- What the status reports about a failed operation, and the consequences of a status for failed
 -- operations.
-use Rattle.std.proofs.Common.{◌≡◌, ◌⊎◌, ◌<◌, ◌≤◌, ◌^◌, ℕ, suc, Bool, true, false, List, Option, Some, None, IfSome, Result, Ok, Err, inl, inr, refl, sym, ap, ◌∙◌, subst, length, arith}
+use Rattle.std.proofs.Common.{◌≡◌, ◌⊎◌, ◌<◌, ◌≤◌, ◌^◌, ℕ, true, List, Option, Some, None, IfSome, Result, Ok, Err, inl, inr, refl, sym, ap, ◌∙◌, subst, length, arith}
 use Rattle.std.specs.Prelude.{IsSomeAnd}
 use Rattle.std.proofs.lemmas.Option.{IfSome_then}
 use Rattle.cli_spec.specs.declared.status.Status.{Status}
@@ -11,19 +11,17 @@ use Rattle.cli_spec.specs.declared.exit.Exit.TheVariants.{CannotOpen as cannot_o
 use Rattle.cli_args.proofs.RequestLemmas.{one_request}
 use Rattle.base_io.specs.IoFaults.{RoseOrLast}
 use Rattle.base_io.specs.Files.{File, contents_of}
-use Rattle.base_io.specs.StreamState.{change}
-use Rattle.run_spec.specs.runs.Account.{IsWanted, FetchesIn, MayBe, Completes, Breaks, Account}
+use Rattle.run_spec.specs.runs.Account.{IsWanted, MayBe, Completes, Breaks, Account}
 use Rattle.run_spec.specs.runs.Call.{Call}
 use Rattle.run_spec.specs.runs.RunCauses.{IsSought, OnlyTooLong}
 use Rattle.run_spec.specs.runs.Commands.{Given, Commands, Prepares, IsLast, Closes, RunReplies}
 use Rattle.run_spec.specs.runs.Given.{IsFoundOf, IsMeasured, IsMeasuredFile, is_fault, has_open_fault, has_read_fault}
 use Rattle.run_spec.specs.runs.Lawful.{IsWhole, FailsAtFile, AreLawful}
-use Rattle.run_spec.specs.runs.Environment.{WritesLine, IsWriteOrMemoryError, OnlyReadFault, OnlyWriteFault, ReportsReadFault, ReportsOpenFault, ReportsWriteFault}
-use Rattle.run_spec.specs.runs.RunSpec.{ReportsFaults}
-use Rattle.run_spec.proofs.runs.RunFileLemmas.{rose_turn, found_in, measured_in, reading_failed, not_shorter}
+use Rattle.run_spec.specs.runs.Environment.{WritesLine, IsWriteOrMemoryError, OnlyWriteFault, ReportsWriteFault}
+use Rattle.run_spec.proofs.runs.RunFileLemmas.{found_in, measured_in, not_shorter}
 use Rattle.run_spec.proofs.runs.RunOnceLemmas.{prepares_once}
 use Rattle.run_spec.proofs.runs.RunWriteLemmas.{rose_after}
-use Rattle.run_spec.proofs.runs.RunSettledLemmas.{Goes, IsOuter, reply_inside, exit_status, Cause, by_reply, by_file, by_input, cause_of, outcome_output, read_output, long_output, IsStatus, some_outcome, settled}
+use Rattle.run_spec.proofs.runs.RunSettledLemmas.{Goes, IsOuter, reply_inside, exit_status, Cause, by_reply, by_file, by_input, cause_of, outcome_output, long_output, IsStatus}
 
 not_less : (a b : ℕ) → b ≡ a → a < b → ⊥
 not_less a b e less = omega arith
@@ -135,7 +133,7 @@ module _ {A : Type 0} (c : Commands A) (arguments : List (List ℕ)) (call : Cal
 
 module _ {A : Type 0} (c : Commands A) (arguments : List (List ℕ)) (call : Call)
     (lawful : AreLawful c) where
-  not_of_environment :
+  pub not_of_environment :
       (status other : Status) → IsWriteOrMemoryError status → status ≡ other → (IsWriteOrMemoryError other → ⊥) → ⊥
   not_of_environment status other write_or_memory_error e never = never (subst IsWriteOrMemoryError e write_or_memory_error)
 
@@ -147,14 +145,17 @@ module _ {A : Type 0} (c : Commands A) (arguments : List (List ℕ)) (call : Cal
         → IsWanted c arguments given.files f.turn f.name
     wanted_of request asks result f = record { request = request; asks = asks; wants = f.wants }
 
-    read_of :
+    -- If an outcome has status 6, then the input or a file ends because of a fault.
+    pub read_from :
         (ending_of all).status ≡ statuses.ReadFault
-        → RoseOrLast call.input.before.faults call.input.after.faults
-        ⊎ RoseOrLast call.files.before.read_faults call.files.after.read_faults
-    read_of e = by (cause_of c arguments lawful given all outcome) where
+        → (is_fault given.input.until ≡ true)
+        ⊎ ((turn : ℕ) × (name : List ℕ) × IsWanted c arguments given.files turn name
+        × (has_read_fault (given.files turn name) ≡ true))
+    read_from e = by (cause_of c arguments lawful given all outcome) where
       by : Cause c arguments given all
-          → RoseOrLast call.input.before.faults call.input.after.faults
-          ⊎ RoseOrLast call.files.before.read_faults call.files.after.read_faults
+          → (is_fault given.input.until ≡ true)
+          ⊎ ((turn : ℕ) × (name : List ℕ) × IsWanted c arguments given.files turn name
+          × (has_read_fault (given.files turn name) ≡ true))
       by (by_reply inside) =
           absurd (reply_inside all.output all.last inside (subst IsOuter (sym e) tt))
       by (by_file request asks exit p f is) =
@@ -163,12 +164,15 @@ module _ {A : Type 0} (c : Commands A) (arguments : List (List ℕ)) (call : Cal
           let status : status_of f.exit ≡ statuses.ReadFault =
           sym (ap (λ all. (ending_of all).status) is ∙ ap status_of same) ∙ e in
           let ends = file_read f.name (given.files f.turn f.name) f.exit f.fault status in
-          inr (reading_failed c arguments call.files given.files may_be.files lawful f.turn f.name
-          (wanted_of request asks (Err exit) f)
-          (ap has_read_fault ends.is ∙ ap is_fault ends.until))
+          inr (
+            f.turn,
+            f.name,
+            wanted_of request asks (Err exit) f,
+            ap has_read_fault ends.is ∙ ap is_fault ends.until,
+          )
       by (by_input a p reads s exit f last) =
           let at = read_end given.input.until exit f (sym (exit_status all exit last) ∙ e) in
-          inl (rw at at may_be.input.cause).rose
+          inl (ap is_fault at)
 
     long_of :
         (ending_of all).status ≡ statuses.TooLong
@@ -252,31 +256,26 @@ module _ {A : Type 0} (c : Commands A) (arguments : List (List ℕ)) (call : Cal
             at (inl whole) = absurd (not_whole whole)
             at (inr (exit, fault, e)) = (exit, fault, subst (Goes c given all) e m)
 
-    input_outputs :
-        call.input.before.faults < call.input.after.faults
-        → (ending_of all).status ≡ statuses.ReadFault
-    input_outputs less = by given.input.until refl where
-      kept : (u : ReadingEnd) → given.input.until ≡ u → is_fault u ≡ false → ⊥
-      kept u e f =
-          not_less call.input.before.faults call.input.after.faults
-          (rw (ap is_fault e ∙ f) at may_be.input.cause).kept less
-
-      not_nothing : given.input.until ≡ at_fault → given.input ≡ nothing → ⊥
-      not_nothing e none =
+    -- If a call on the input failed, then the outcome has status 6.
+    pub input_outputs_read :
+        given.input.until ≡ at_fault → (ending_of all).status ≡ statuses.ReadFault
+    input_outputs_read e = from outcome.0 outcome.1 outcome.2 where
+      not_nothing : given.input ≡ nothing → ⊥
+      not_nothing none =
           let no : at_fault ≡ unasked = sym e ∙ ap (λ t. t.until) none in cc no
 
-      from : given.input.until ≡ at_fault → (found : Result A Exit)
+      from : (found : Result A Exit)
           → Prepares c arguments given.files found → Goes c given all found
           → (ending_of all).status ≡ statuses.ReadFault
-      from e (Err exit) p m =
-          absurd (not_nothing e (may_be.untaken (λ a p' reads.
+      from (Err exit) p m =
+          absurd (not_nothing (may_be.untaken (λ a p' reads.
           let no = prepares_once c lawful arguments given.files (Ok a) (Err exit) p' p in cc no)))
-      from e (Ok a) p (inr alone) =
-          absurd (not_nothing e (may_be.untaken (λ b p' reads.
+      from (Ok a) p (inr alone) =
+          absurd (not_nothing (may_be.untaken (λ b p' reads.
           let both : ◌≡◌ {A = Result A Exit} (Ok b) (Ok a) =
           prepares_once c lawful arguments given.files (Ok b) (Ok a) p' p in
           let same : b ≡ a = cc both in alone.unread (subst c.Reads same reads))))
-      from e (Ok a) p (inl (reads, s)) = go s.last where
+      from (Ok a) p (inl (reads, s)) = go s.last where
         go : IsLast c a s.items s.rest given.input.until all.last
             → (ending_of all).status ≡ statuses.ReadFault
         go (inl (exit, at, fine, is)) =
@@ -285,12 +284,6 @@ module _ {A : Type 0} (c : Commands A) (arguments : List (List ℕ)) (call : Cal
         go (inr (on, closes)) =
             exit_status all read_fault
             (subst (λ u. Closes c a s.items s.rest u all.last) e closes)
-
-      by : (u : ReadingEnd) → given.input.until ≡ u → (ending_of all).status ≡ statuses.ReadFault
-      by at_end e = absurd (kept at_end e refl)
-      by at_fault e = from e outcome.0 outcome.1 outcome.2
-      by at_length e = absurd (kept at_length e refl)
-      by unasked e = absurd (kept unasked e refl)
 
     open_failed : (found : Found) → has_open_fault found ≡ true → found ≡ failed
     open_failed (opened taken) e = absurd (cc e)
@@ -302,33 +295,17 @@ module _ {A : Type 0} (c : Commands A) (arguments : List (List ℕ)) (call : Cal
     not_whole_failed found e (inl (bytes, is)) = let no : failed ≡ opened (whole bytes) = sym e ∙ is in cc no
     not_whole_failed found e (inr is) = let no : failed ≡ missing = sym e ∙ is in cc no
 
-    opens_print :
-        call.files.before.open_faults < call.files.after.open_faults
+    -- If a file that is requested cannot be opened, then the outcome has status 8.
+    pub open_outputs :
+        (turn : ℕ) (name : List ℕ) → IsWanted c arguments given.files turn name
+        → has_open_fault (given.files turn name) ≡ true
         → (ending_of all).status ≡ statuses.OpenFault
-    opens_print less = at (may_be.files.each rose.0 rose.1) where
-      rose : (turn : ℕ) × (turn < may_be.files.turns)
-          × ((may_be.files.state turn).open_faults < (may_be.files.state (suc turn)).open_faults)
-      rose = rose_turn c arguments call.files given.files may_be.files (λ f. f.open_faults) less
-
-      kept : (may_be.files.state (suc rose.0)).open_faults ≡ (may_be.files.state rose.0).open_faults
-          → ⊥
-      kept e =
-          not_less (may_be.files.state rose.0).open_faults
-          (may_be.files.state (suc rose.0)).open_faults e rose.2
-
-      at : FetchesIn c arguments (change (may_be.files.state rose.0) (may_be.files.state (suc rose.0)))
-          given.files rose.0 → (ending_of all).status ≡ statuses.OpenFault
-      at (inr (same, none)) = absurd (kept (ap (λ f. f.open_faults) same))
-      at (inl (name, wanted, fetched)) = fault (has_open_fault (given.files rose.0 name)) refl where
-        fault : (b : Bool) → has_open_fault (given.files rose.0 name) ≡ b
-            → (ending_of all).status ≡ statuses.OpenFault
-        fault false e = absurd (kept (rw e at fetched.opening).kept)
-        fault true e =
-            let is = open_failed (given.files rose.0 name) e in
-            let outputs = fault_outputs rose.0 name wanted (not_whole_failed (given.files rose.0 name) is) in
-            let exit : outputs.0 ≡ cannot_open name =
-            subst (λ o. ReadsFile name o (Err outputs.0)) is outputs.1 in
-            ap (λ all. (ending_of all).status) outputs.2 ∙ ap status_of exit
+    open_outputs turn name wanted e =
+        let is = open_failed (given.files turn name) e in
+        let outputs = fault_outputs turn name wanted (not_whole_failed (given.files turn name) is) in
+        let exit : outputs.0 ≡ cannot_open name =
+        subst (λ o. ReadsFile name o (Err outputs.0)) is outputs.1 in
+        ap (λ all. (ending_of all).status) outputs.2 ∙ ap status_of exit
 
     read_failed : (found : Found) → has_read_fault found ≡ true → EndsSo found at_fault
     read_failed (opened taken) e =
@@ -350,64 +327,22 @@ module _ {A : Type 0} (c : Commands A) (arguments : List (List ℕ)) (call : Cal
     not_whole_read found ends (inr is) =
         let no : opened ends.taken ≡ missing = sym ends.is ∙ is in cc no
 
-    reads_print :
-        call.files.before.read_faults < call.files.after.read_faults
+    -- If reading a file that is requested failed, then the outcome has status 6.
+    pub fault_outputs_read :
+        (turn : ℕ) (name : List ℕ) → IsWanted c arguments given.files turn name
+        → has_read_fault (given.files turn name) ≡ true
         → (ending_of all).status ≡ statuses.ReadFault
-    reads_print less = at (may_be.files.each rose.0 rose.1) where
-      rose : (turn : ℕ) × (turn < may_be.files.turns)
-          × ((may_be.files.state turn).read_faults < (may_be.files.state (suc turn)).read_faults)
-      rose = rose_turn c arguments call.files given.files may_be.files (λ f. f.read_faults) less
-
-      kept : (may_be.files.state (suc rose.0)).read_faults ≡ (may_be.files.state rose.0).read_faults
-          → ⊥
-      kept e =
-          not_less (may_be.files.state rose.0).read_faults
-          (may_be.files.state (suc rose.0)).read_faults e rose.2
-
-      at : FetchesIn c arguments (change (may_be.files.state rose.0) (may_be.files.state (suc rose.0)))
-          given.files rose.0 → (ending_of all).status ≡ statuses.ReadFault
-      at (inr (same, none)) = absurd (kept (ap (λ f. f.read_faults) same))
-      at (inl (name, wanted, fetched)) = fault (has_read_fault (given.files rose.0 name)) refl where
-        fault : (b : Bool) → has_read_fault (given.files rose.0 name) ≡ b
-            → (ending_of all).status ≡ statuses.ReadFault
-        fault false e = absurd (kept (rw e at fetched.reading).kept)
-        fault true e =
-            let ends = read_failed (given.files rose.0 name) e in
-            let outputs = fault_outputs rose.0 name wanted (not_whole_read (given.files rose.0 name) ends) in
-            let f : fault_of ends.taken.until ≡ Some outputs.0 =
-            subst (λ o. ReadsFile name o (Err outputs.0)) ends.is outputs.1 in
-            let at : fault_of at_fault ≡ Some outputs.0 =
-            subst (λ u. fault_of u ≡ Some outputs.0) ends.until f in
-            let exit : read_fault ≡ outputs.0 = cc at in
-            ap (λ all. (ending_of all).status) outputs.2 ∙ ap status_of (sym exit)
-
-  pub only_read_fault : IsStatus c arguments call → OnlyReadFault call
-  only_read_fault (inl o) e = read_of o.given o.may_be o.all o.outcome (sym o.is ∙ e)
-  only_read_fault (inr write_or_memory_error) e =
-      absurd (not_of_environment call.status statuses.ReadFault write_or_memory_error e read_output)
+    fault_outputs_read turn name wanted e =
+        let ends = read_failed (given.files turn name) e in
+        let outputs = fault_outputs turn name wanted (not_whole_read (given.files turn name) ends) in
+        let f : fault_of ends.taken.until ≡ Some outputs.0 =
+        subst (λ o. ReadsFile name o (Err outputs.0)) ends.is outputs.1 in
+        let at : fault_of at_fault ≡ Some outputs.0 =
+        subst (λ u. fault_of u ≡ Some outputs.0) ends.until f in
+        let exit : read_fault ≡ outputs.0 = cc at in
+        ap (λ all. (ending_of all).status) outputs.2 ∙ ap status_of (sym exit)
 
   pub only_too_long : IsStatus c arguments call → OnlyTooLong c arguments call
   only_too_long (inl o) e = long_of o.given o.may_be o.all o.outcome (sym o.is ∙ e)
   only_too_long (inr write_or_memory_error) e =
       absurd (not_of_environment call.status statuses.TooLong write_or_memory_error e long_output)
-
-  pub reports_read_fault : IsStatus c arguments call → ReportsReadFault call
-  reports_read_fault status = record {
-    input = λ less. settled c arguments call status (λ s. s ≡ statuses.ReadFault)
-        (λ given may_be all outcome. input_outputs given may_be all outcome less);
-    file = λ less. settled c arguments call status (λ s. s ≡ statuses.ReadFault)
-        (λ given may_be all outcome. reads_print given may_be all outcome less);
-  }
-
-  pub reports_open_fault : IsStatus c arguments call → ReportsOpenFault call
-  reports_open_fault status less =
-      settled c arguments call status (λ s. s ≡ statuses.OpenFault)
-      (λ given may_be all outcome. opens_print given may_be all outcome less)
-
-  -- If a run has an account, then failed operations are reported.
-  pub reports_faults : Account c arguments call → ReportsFaults call
-  reports_faults a = record {
-    reads = reports_read_fault (some_outcome c arguments call a);
-    opens = reports_open_fault (some_outcome c arguments call a);
-    writes = reports_write_fault c arguments call a;
-  }

@@ -1,14 +1,14 @@
 -- Several reads in sequence.
-use Rattle.std.proofs.Common.{◌≡◌, ℕ, ◌<◌, ◌≤◌, ◌^◌, false, true, List, ◌++◌, length, take, drop, Option, Some, None, IfSome, Ok, Err, refl, sym, ap, ◌∙◌, append_assoc, length-append, arith}
+use Rattle.std.proofs.Common.{◌≡◌, ℕ, ◌<◌, ◌≤◌, ◌^◌, List, ◌++◌, length, take, drop, Option, Some, None, IfSome, Ok, Err, refl, sym, ap, ◌∙◌, append_assoc, length-append, arith}
 use Rattle.std.proofs.lemmas.List.{take-append-drop, length-take}
 use Rattle.std.proofs.lemmas.List.Elements.{All-append}
 use Rattle.std.proofs.lemmas.Option.{IfSome_then}
 use Rattle.cli_spec.specs.Outcome.{ReadingEnd, Taken, nothing, at_end, at_fault, at_length, unasked}
 use Rattle.base_data.specs.model.Bytes.{AreBytes}
 use Rattle.base_io.specs.Source.{Moves, TakesPrefix}
-use Rattle.base_io.specs.StreamState.{ByteState, change}
+use Rattle.base_io.specs.StreamState.{SourceState, change}
 use Rattle.run_spec.specs.runs.Given.{chunk_limit, TakesFrom, Gathers}
-use Rattle.run_spec.proofs.runs.RunWriteLemmas.{cause_then}
+use Rattle.run_spec.proofs.runs.CallLemmas.{called_nothing, called_more, called_end, called_fault, called_length}
 
 abbrev pub taken : List ℕ → ReadingEnd → Taken
 taken bytes until = record { bytes = bytes; until = until }
@@ -18,19 +18,19 @@ nothing_known None = tt
 nothing_known (Some bytes) = (bytes, record { prefix = refl; ends = λ e. cc e }, refl)
 
 -- If no operation is performed, then no bytes are gathered.
-pub took_nothing : (a : ByteState) → Gathers (change a a) nothing
+pub took_nothing : (a : SourceState) → Gathers (change a a) nothing
 took_nothing a = record {
   known = nothing_known a.bytes;
   measured = omega arith;
   are_bytes = λ k d less. absurd (omega arith);
-  cause = record { never_falls = omega arith; rose = tt; kept = refl; at_last = λ e. e };
+  called = called_nothing a.calls;
 }
 
-module _ {E : Type 0} (a b c : ByteState) (bytes buffer : List ℕ) (before : Gathers (change a b) (taken bytes unasked)) where
-  -- If `n` more bytes are read, then the bytes gathered grow by the `n` bytes.
-  pub took_more : (n : ℕ) → length bytes < 2 ^ 48 → length buffer ≤ chunk_limit → TakesPrefix {E = E} b c (Ok n) buffer → AreBytes (take n buffer)
+module _ {E : Type 0} (a b c : SourceState) (bytes buffer : List ℕ) (before : Gathers (change a b) (taken bytes unasked)) where
+  -- If `n` more bytes are read, at least one, then the bytes gathered grow by the `n` bytes.
+  pub took_more : (n : ℕ) → 0 < n → length bytes < 2 ^ 48 → length buffer ≤ chunk_limit → TakesPrefix {E = E} b c (Ok n) buffer → AreBytes (take n buffer)
       → Gathers (change a c) (taken (bytes ++ take n buffer) unasked)
-  took_more n short chunk moved are_bytes = record {
+  took_more n some short chunk moved are_bytes = record {
     known = IfSome_then a.bytes before.known (λ all t.
         let moves : Moves t.0 n buffer c.bytes = rw t.2 at moved.moved in (
           drop n t.0,
@@ -45,7 +45,8 @@ module _ {E : Type 0} (a b c : ByteState) (bytes buffer : List ℕ) (before : Ga
         let all = length-append bytes (take n buffer) in
         let few = length-take n buffer in omega (arith, all, few, short, chunk);
     are_bytes = All-append (λ b. b < 256) bytes (take n buffer) before.are_bytes are_bytes;
-    cause = cause_then a.faults b.faults c.faults false before.cause moved.cause;
+    called = called_more a.calls b.calls c.calls bytes before.called (length buffer) (take n buffer)
+        (omega (arith, some, moved.within, length-take n buffer)) moved.called;
   }
 
   -- If a read returns no bytes, then the end of the source was reached.
@@ -56,7 +57,7 @@ module _ {E : Type 0} (a b c : ByteState) (bytes buffer : List ℕ) (before : Ga
         (t.0, record { prefix = t.1.prefix; ends = λ e. (moves.ends some).0 refl }, moves.rest));
     measured = short;
     are_bytes = before.are_bytes;
-    cause = cause_then a.faults b.faults c.faults false before.cause moved.cause;
+    called = called_end a.calls b.calls c.calls bytes before.called (length buffer) some moved.called;
   }
 
   -- If an operation failed, then the bytes gathered end at a fault.
@@ -65,14 +66,14 @@ module _ {E : Type 0} (a b c : ByteState) (bytes buffer : List ℕ) (before : Ga
     known = IfSome_then a.bytes before.known (λ all t. (t.0, record { prefix = t.1.prefix; ends = λ e. absurd (cc e) }, moved.failed ∙ t.2));
     measured = short;
     are_bytes = before.are_bytes;
-    cause = cause_then a.faults b.faults c.faults true before.cause moved.cause;
+    called = called_fault a.calls b.calls c.calls bytes before.called moved.called;
   }
 
 -- If 2^48 bytes or more were gathered, then the source is too long.
-pub took_length : (a b : ByteState) (bytes : List ℕ) → Gathers (change a b) (taken bytes unasked) → 2 ^ 48 ≤ length bytes → Gathers (change a b) (taken bytes at_length)
+pub took_length : (a b : SourceState) (bytes : List ℕ) → Gathers (change a b) (taken bytes unasked) → 2 ^ 48 ≤ length bytes → Gathers (change a b) (taken bytes at_length)
 took_length a b bytes before long = record {
   known = IfSome_then a.bytes before.known (λ all t. (t.0, record { prefix = t.1.prefix; ends = λ e. absurd (cc e) }, t.2));
   measured = (long, before.measured);
   are_bytes = before.are_bytes;
-  cause = before.cause;
+  called = called_length a.calls b.calls bytes before.called;
 }

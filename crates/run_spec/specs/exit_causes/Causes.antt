@@ -1,8 +1,8 @@
 -- The exit status specification of commands that read their input, given by tables for the
 -- arguments and the files, and for the input. If the tables are exact, then each status has its
 -- cause, and each cause leads to its status.
-use Rattle.std.specs.Prelude.{ℕ, ◌^◌, ◌<◌, ◌≡◌, ◌≢◌, ◌↔◌, ◌⊎◌, List, length, take, Some, IfSome, Ok}
-use Rattle.std.specs.Prelude.{Err}
+use Rattle.std.specs.Prelude.{ℕ, ◌^◌, ◌<◌, ◌≡◌, ◌≢◌, ◌↔◌, ◌⊎◌, List, ◌++◌, length, take, Some}
+use Rattle.std.specs.Prelude.{IfSome, Ok, Err}
 use Rattle.base_data.specs.model.Bytes.{AreBytes}
 use Rattle.cli_spec.specs.declared.status.Status.{Status}
 use Rattle.cli_spec.specs.declared.status.Status.TheVariants.{Usage, ReadFault, Memory, TooLong}
@@ -11,7 +11,9 @@ use Rattle.cli_spec.specs.Outcome.{Replies}
 use Rattle.cli_spec.specs.declared.exit.Exit.{Exit}
 use Rattle.cli_spec.specs.declared.exit.Exit.TheVariants.{BadPath as bad_path}
 use Rattle.base_io.specs.Files.{File, contents_of}
+use Rattle.base_io.specs.History.{Event, bytes_of, HasEnded}
 use Rattle.run_spec.specs.runs.Account.{FetchesFor}
+use Rattle.run_spec.specs.runs.Answered.{IsUnbroken}
 use Rattle.run_spec.specs.runs.Call.{Call}
 use Rattle.run_spec.specs.runs.RunCauses.{AreShortBefore}
 use Rattle.run_spec.specs.runs.Commands.{Fetches, Commands, Prepares, HaveExit}
@@ -160,6 +162,17 @@ module _ {A : Type 0} (c : Commands A) (tables : Tables A) where
         → (call.status ≡ Memory)
         ⊎ ((status : Status) → (call.status ≡ status) ↔ IsDue input (known_files files) status)
 
+    -- ---- runs that read their input to the end
+
+    -- Let a run find the end of its input, let memory suffice, and let no write fail. Then the run
+    -- returns a status if and only if `IsDue` holds for the status. `IsDue` is about the bytes of
+    -- the calls on the input and about the fetched files. Nothing needs to be known before the run.
+    abbrev pub HasWhatIsDueAtEnd : Call → Type 0
+    HasWhatIsDueAtEnd call = IsUnbroken call → (new : List Event)
+        → call.input.after.calls ≡ call.input.before.calls ++ new → HasEnded new
+        → (found : Fetches) × FetchesFor c arguments call.files found
+        × ((status : Status) → (call.status ≡ status) ↔ IsDue (bytes_of new) found status)
+
     -- ---- the whole specification
 
     pub record Causes (call : Call) : Type 0 where
@@ -175,3 +188,6 @@ module _ {A : Type 0} (c : Commands A) (tables : Tables A) where
       -- Unless memory ran out, a fault-free run has a status if and only if `IsDue` holds for the
       -- status.
       pub due : HasWhatIsDue call
+      -- Unless memory ran out or a write failed, a run that found the end of its input has a status
+      -- if and only if `IsDue` holds for the status. Nothing needs to be known of the input.
+      pub due_at_end : HasWhatIsDueAtEnd call

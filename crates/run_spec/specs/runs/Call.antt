@@ -2,16 +2,16 @@
 -- and the status.
 use Rattle.std.specs.Prelude.{ℕ, List, ◌++◌, ◌≡◌, Some}
 use Rattle.cli_spec.specs.declared.status.Status.{Status}
-use Rattle.base_io.specs.StreamState.{ByteState, FilesState, Change}
+use Rattle.base_io.specs.StreamState.{ByteState, SourceState, FilesState, Change}
 
 pub record Call : Type 0 where
-  pub input : Change ByteState
+  pub input : Change SourceState
   pub files : Change FilesState
   pub out : Change ByteState
   pub err : Change ByteState
   pub status : Status
 
-abbrev pub call : Change ByteState → Change FilesState → Change ByteState → Change ByteState
+abbrev pub call : Change SourceState → Change FilesState → Change ByteState → Change ByteState
     → Status → Call
 call input files out err status =
     record { input = input; files = files; out = out; err = err; status = status }

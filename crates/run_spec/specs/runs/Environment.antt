@@ -1,23 +1,21 @@
 -- The environment of a run, for any command: failed operations, and how failures change the state.
-use Rattle.std.specs.Prelude.{ℕ, ◌^◌, ◌<◌, ◌≤◌, ◌≡◌, ◌⊎◌, List, length, Some, None, IsSomeAnd}
+use Rattle.std.specs.Prelude.{ℕ, ◌^◌, ◌<◌, ◌≡◌, ◌⊎◌, List, ◌++◌, length, Some, None}
+use Rattle.std.specs.Prelude.{IsSomeAnd}
 use Rattle.cli_spec.specs.declared.status.Status.{Status}
 use Rattle.cli_spec.specs.declared.status.Status.TheVariants.{ReadFault, WriteFault, OpenFault}
 use Rattle.cli_spec.specs.declared.status.Status.TheVariants.{Memory}
 use Rattle.cli_spec.specs.Outcome.{ReadingEnd, fault_of, status_of, exit_line, Ending}
 use Rattle.cli_spec.specs.declared.exit.Exit.{Exit}
-use Rattle.base_io.specs.IoFaults.{RoseOrLast, last_count}
+use Rattle.base_io.specs.IoFaults.{RoseOrLast}
 use Rattle.base_io.specs.Files.{File, contents_of}
+use Rattle.base_io.specs.History.{Event, HasFailed, HasOpenFailed, HasOpenFailedAt}
 use Rattle.base_io.specs.Sink.{Writes, WritesPart}
 use Rattle.base_io.specs.StreamState.{ByteState, FilesState, Change, change}
 use Rattle.run_spec.specs.runs.Call.{Call}
 
--- The file map stays the same, and no count of faults decreases.
-pub record KeepFiles (files : Change FilesState) : Type 0 where
-  pub map : files.after.map ≡ files.before.map
-  pub opening : files.before.open_faults ≤ files.after.open_faults
-  pub opening_at_last : files.before.open_faults ≡ last_count → files.after.open_faults ≡ last_count
-  pub reading : files.before.read_faults ≤ files.after.read_faults
-  pub reading_at_last : files.before.read_faults ≡ last_count → files.after.read_faults ≡ last_count
+-- `Holds` is true of the calls between two moments.
+abbrev pub Called : List Event → List Event → (List Event → Type 0) → Type 0
+Called before after Holds = (new : List Event) × (after ≡ before ++ new) × Holds new
 
 -- If the line of the ending is written to `err`, the ending's status is returned. If the line could
 -- not be written completely, the status is 7.
@@ -45,9 +43,9 @@ pub record IsOkRead (call : Call) (input : List ℕ) (files : List File) : Type 
   pub files_known : call.files.before.map ≡ Some files
   pub input_short : length input < 2 ^ 48
   pub files_short : AreShort files
-  pub takes : ¬ RoseOrLast call.input.before.faults call.input.after.faults
-  pub opens : ¬ RoseOrLast call.files.before.open_faults call.files.after.open_faults
-  pub reads : ¬ RoseOrLast call.files.before.read_faults call.files.after.read_faults
+  pub takes : ¬ Called call.input.before.calls call.input.after.calls HasFailed
+  pub opens : ¬ Called call.files.before.calls call.files.after.calls HasOpenFailed
+  pub reads : ¬ Called call.files.before.calls call.files.after.calls HasFailed
 
 -- A fault-free run: the input and the files are read without errors, and no operation on `out` or
 -- `err` failed.
@@ -64,12 +62,11 @@ IsWriteOrMemoryError status = (status ≡ Memory) ⊎ (status ≡ WriteFault)
 abbrev pub IsEnvironment : Status → Type 0
 IsEnvironment status = (status ≡ ReadFault) ⊎ ((status ≡ OpenFault) ⊎ IsWriteOrMemoryError status)
 
--- If status 6 is returned, then the fault count of the input or the count of the files' read faults
--- increased or is at its last value.
+-- If status 6 is returned, then a call on the input or on an opened file failed.
 abbrev pub OnlyReadFault : Call → Type 0
 OnlyReadFault call = call.status ≡ ReadFault
-    → RoseOrLast call.input.before.faults call.input.after.faults
-    ⊎ RoseOrLast call.files.before.read_faults call.files.after.read_faults
+    → Called call.input.before.calls call.input.after.calls HasFailed
+    ⊎ Called call.files.before.calls call.files.after.calls HasFailed
 
 -- If status 7 is returned, then the fault count of `out` or `err` increased or is at its last
 -- value.
@@ -83,23 +80,24 @@ pub record ReportsWriteFault (call : Call) : Type 0 where
   pub out : call.out.before.faults < call.out.after.faults → call.status ≡ WriteFault
   pub err : call.err.before.faults < call.err.after.faults → call.status ≡ WriteFault
 
+-- If a file could not be opened, then the status is 8, unless the reply could not be completed.
 abbrev pub ReportsOpenFault : Call → Type 0
-ReportsOpenFault call =
-    call.files.before.open_faults < call.files.after.open_faults
+ReportsOpenFault call = Called call.files.before.calls call.files.after.calls HasOpenFailed
     → (call.status ≡ OpenFault) ⊎ IsWriteOrMemoryError call.status
 
+-- If a call on the input or on an opened file failed, then the status is 6, unless the reply could
+-- not be completed.
 pub record ReportsReadFault (call : Call) : Type 0 where
-  pub input : call.input.before.faults < call.input.after.faults
+  pub input : Called call.input.before.calls call.input.after.calls HasFailed
       → (call.status ≡ ReadFault) ⊎ IsWriteOrMemoryError call.status
-  pub file : call.files.before.read_faults < call.files.after.read_faults
+  pub file : Called call.files.before.calls call.files.after.calls HasFailed
       → (call.status ≡ ReadFault) ⊎ IsWriteOrMemoryError call.status
 
 -- Opening the file with the name `name` failed, or the file map is known and does not have the
 -- name.
 abbrev pub CannotOpen : Change FilesState → List ℕ → Type 0
 CannotOpen files name =
-    (RoseOrLast files.before.open_faults files.after.open_faults
-    × (files.after.last_open_fault ≡ Some name))
+    Called files.before.calls files.after.calls (HasOpenFailedAt name)
     ⊎ IsSomeAnd files.before.map (λ all. contents_of all name ≡ None)
 
 -- The bytes ended at a fault, or were too many. The status reports the reason, and `err` has the

@@ -224,7 +224,7 @@ module _ {A : Type 0} (c : Commands A) (arguments : List (List ℕ)) where
   -- ---- statuses that the environment causes
 
   pub record EnvironmentCauses (call : Call) : Type 0 where
-    -- Status 6: an operation on the input failed, or reading a file failed.
+    -- Status 6: a call on the input or on an opened file failed.
     pub read_fault : OnlyReadFault call
     -- Status 7: an operation on `out` or `err` failed.
     pub write_fault : OnlyWriteFault call

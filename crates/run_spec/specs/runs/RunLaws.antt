@@ -7,7 +7,7 @@ use Rattle.run_spec.specs.runs.CommandLaws.{HaveOneOutcome, HaveOneExit, ExitsSt
 use Rattle.run_spec.specs.runs.CommandLaws.{ArePromised, Follow}
 use Rattle.run_spec.specs.runs.Commands.{Commands}
 use Rattle.run_spec.specs.runs.Environment.{OnlyReadFault, OnlyWriteFault}
-use Rattle.run_spec.specs.runs.RunSpec.{IfExit, IfEnd, IfUsage}
+use Rattle.run_spec.specs.runs.RunSpec.{Headline, HasStatus, IfExit, IfEnd, IfUsage}
 
 module _ {A : Type 0} (c : Commands A) where
   -- Arguments, files and an input have at most one outcome. The input contains at most one exit
@@ -22,6 +22,8 @@ module _ {A : Type 0} (c : Commands A) where
   -- from the specification.
   pub record KeepRunSpec : Type 0 where
     pub account : ArePromised c
+    pub headline : Follow c (Headline c)
+    pub status : Follow c (HasStatus c)
     pub exit : Follow c (IfExit c)
     pub end : Follow c (IfEnd c)
     pub alone : Follow c (IfAlone c)

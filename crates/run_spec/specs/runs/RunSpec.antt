@@ -9,10 +9,12 @@ use Rattle.cli_spec.specs.declared.exit.Exit.{Exit}
 use Rattle.base_io.specs.Files.{File, contents_of}
 use Rattle.base_io.specs.Sink.{Writes}
 use Rattle.run_spec.specs.runs.Account.{MayBe, FetchesFor, Account}
+use Rattle.run_spec.specs.runs.Answered.{AnswersGiven, AnswersWhole}
 use Rattle.run_spec.specs.runs.Call.{Call}
 use Rattle.run_spec.specs.runs.Commands.{Item, Fetches, Given, Commands, Prepares, OutputsFirst}
 use Rattle.run_spec.specs.runs.Commands.{GoesOn}
 use Rattle.run_spec.specs.runs.Commands.{HaveExit, OutputsAlone, RunReplies, Outcome}
+use Rattle.run_spec.specs.runs.Given.{IsInputOf}
 use Rattle.run_spec.specs.runs.Environment.{AreShort, IsHonest, IsWriteOrMemoryError, IsEnvironment}
 use Rattle.run_spec.specs.runs.Environment.{ReportsReadFault}
 use Rattle.run_spec.specs.runs.Environment.{ReportsOpenFault, ReportsWriteFault}
@@ -21,7 +23,7 @@ use Rattle.run_spec.specs.runs.Environment.{ReportsOpenFault, ReportsWriteFault}
 abbrev pub known_files : List File → Fetches
 known_files files = λ turn name. found_of (contents_of files name)
 
--- A failed operation is reported: if a fault count increased, the status is 6, 7, 8 or 9.
+-- A failed call is reported: the status is 6, 7, 8 or 9.
 pub record ReportsFaults (call : Call) : Type 0 where
   pub reads : ReportsReadFault call
   pub opens : ReportsOpenFault call
@@ -55,8 +57,8 @@ module _ {A : Type 0} (c : Commands A) where
       pub err : Writes call.err (ending_of all).err
       pub status : call.status ≡ (ending_of all).status
 
-    -- Unless memory runs out, a fault-free run has the outcome, however the input was split into
-    -- chunks.
+    -- Unless memory runs out, a fault-free run over known contents has the outcome of the contents,
+    -- however the input was split into chunks.
     abbrev pub Headline : Call → Type 0
     Headline call = (input : List ℕ) (files : List File)
         → IsHonest call input files → call.status ≢ Memory → HasOutcome call input files
@@ -69,16 +71,22 @@ module _ {A : Type 0} (c : Commands A) where
       pub outcome : RunReplies c arguments given all
       pub is : status ≡ (ending_of all).status
 
+    -- The status is that of some outcome of what the environment may have provided, or the reply
+    -- could not be completed.
+    abbrev pub HasStatus : Call → Type 0
+    HasStatus call = IsOfOutcome call call.status ⊎ IsWriteOrMemoryError call.status
+
+    -- What is promised of each run, whatever the environment provides.
     pub record RunSpec (call : Call) : Type 0 where
-      -- The account of the run: what the environment provided, and how much of the output was
-      -- written.
+      -- The account of the run states what the calls on the environment provided, the output for
+      -- what was provided, and how much of the output was written.
       pub account : Account c arguments call
-      -- Unless memory runs out, a fault-free run has the outcome of the arguments, the files and
-      -- the input.
-      pub headline : Headline call
-      -- The status is that of some outcome of what the environment may have provided, or the reply
-      -- could not be completed.
-      pub status : IsOfOutcome call call.status ⊎ IsWriteOrMemoryError call.status
+      -- Unless memory runs out or a write fails, the whole answer to what the calls provided is
+      -- written.
+      pub answered : AnswersGiven c arguments call
+      -- If a call on the input found the end, the whole answer to the whole input is written. The
+      -- exceptions are exhausted memory and failed writes.
+      pub whole : AnswersWhole c arguments call
       -- Failed operations are reported.
       pub faults : ReportsFaults call
 
@@ -89,12 +97,14 @@ module _ {A : Type 0} (c : Commands A) where
     IsSettled call Holds = (given : Given) → MayBe c arguments call given
         → (all : Replies) → RunReplies c arguments given all → Holds (ending_of all).status
 
-    -- `Holds` is true of the task that the fetched files determine, and of the whole input.
+    -- `Holds` is true of the task that the fetched files determine, and of a whole input. The input
+    -- begins with the bytes that were read, and agrees with the known contents.
     abbrev pub AtInput : Call → (A → List ℕ → Type 0) → Type 0
     AtInput call Holds =
         (found : Fetches) × FetchesFor c arguments call.files found
         × (a : A) × Prepares c arguments found (Ok a)
-        × (input : List ℕ) × IfSome call.input.before.bytes (λ bytes. bytes ≡ input) × Holds a input
+        × (input : List ℕ) × IfSome call.input.before.bytes (λ bytes. bytes ≡ input)
+        × IsInputOf call.input input × Holds a input
 
     -- The run ends with the status `status` before the input is read.
     pub record ExitsBefore (call : Call) (status : Status) : Type 0 where

@@ -11,7 +11,7 @@ ghost use Rattle.run_spec.specs.runs.Commands.{Commands};
 ghost use Rattle.run_spec.specs.runs.Lawful.{AreLawful, AreInTurns};
 ghost use Rattle.run_spec.specs.runs.Environment.{OnlyReadFault, OnlyWriteFault};
 ghost use Rattle.run_spec.specs.runs.RunLaws.{AnswerOnce, KeepRunSpec};
-ghost use Rattle.run_spec.specs.runs.RunSpec.{IfExit, IfEnd, IfUsage};
+ghost use Rattle.run_spec.specs.runs.RunSpec.{Headline, HasStatus, IfExit, IfEnd, IfUsage};
 ghost use Rattle.run_spec.specs.runs.StreamLaws.{HasOneStream};
 
 /// States that each list of bytes is exactly one list of values, followed by exactly one kind of
@@ -46,6 +46,8 @@ pub fn promised<A: Act>()
 /// returned status means.
 pub fn run_spec_of_commands<A: Act>()
     requires { AreLawful A.commands }
+    ensures headline { Follow A.commands (Headline A.commands) }
+    ensures status { Follow A.commands (HasStatus A.commands) }
     ensures exit { Follow A.commands (IfExit A.commands) }
     ensures end { Follow A.commands (IfEnd A.commands) }
     ensures alone { Follow A.commands (IfAlone A.commands) }

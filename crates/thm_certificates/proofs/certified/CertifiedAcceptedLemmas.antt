@@ -20,6 +20,7 @@ use Rattle.run_spec.specs.runs.Given.{ReportsBytes, TakesFrom, IsFoundOf}
 use Rattle.run_spec.specs.runs.Lawful.{AreLawful}
 use Rattle.run_spec.specs.runs.LawfulLanguage.{IsGiven}
 use Rattle.run_spec.specs.runs.RunSpec.{RunSpec, HasOutcome, known_files}
+use Rattle.run_spec.proofs.runs.RunAnswerLemmas.{headline}
 use Rattle.run_spec.proofs.runs.EndedLemmas.{IsEnd, HasEnded, has_ended, held, taken_whole, write_once}
 use Rattle.run_spec.proofs.runs.RunOnceLemmas.{prepares_once}
 use Rattle.run_spec.proofs.runs.RunSettledLemmas.{Goes}
@@ -247,7 +248,7 @@ module _ (known : Follow on_certified (AreAsKnown on_certified)) (lawful : AreLa
       let e = has_ended on_certified arguments call run_spec.account c.ended in
       let end : IsEnd (ending_of e.all).status = subst IsEnd e.status c.ended in
       let p = are_written arguments asked c.request c.asks c.is_asked e.given e.all end e.outcome in
-      let o = later_run_spec.headline input v.files v.honest v.suffices in
+      let o = headline on_certificates lawful later_arguments later later_run_spec.answered input v.files v.honest v.suffices in
       all_confirmed arguments call reports run_spec asked contents input certificate c e end p later_arguments
       later later_reports v o
       (answers arguments call reports run_spec asked contents input certificate c e end p later_arguments

@@ -10,7 +10,7 @@ invariant-loop-buffer g l = record {
   took : Gathers (change (as_source (g.O.Opener.state l.initial.files)) (as_source (g.O.Opener.state l.files))) (taken l.bytes.items unasked);
   frame : g.O.Opener.state l.files ≡ record (g.O.Opener.state l.initial.files) {
     left = (g.O.Opener.state l.files).left;
-    read_faults = (g.O.Opener.state l.files).read_faults;
+    calls = (g.O.Opener.state l.files).calls;
   };
 }
 

@@ -1,5 +1,8 @@
 use Rattle.session.proofs.commands.all_commands_keep_run_spec.Goals as goal
 
+pub returns-clause-headline : goal.returns-clause-headline
+returns-clause-headline c = c.run_spec_of_commands.ensures.headline
+
 pub returns-clause-environment : goal.returns-clause-environment
 returns-clause-environment c = λ arguments call reports run_spec.
     let then = c.run_spec_of_commands.ensures in

@@ -45,7 +45,7 @@ returns-in_default-forward-clause-taken g c =
     let come = c.loop-taken.invariant.come in
     let counted = come.1 in (
       taken (come.0 ++ take c.in-Ok.n c.take.new.buf) unasked,
-      took_more _ _ _ _ c.take.new.buf come.3 c.in-Ok.n (omega (arith, counted, c.loop-taken-test.true))
+      took_more _ _ _ _ c.take.new.buf come.3 c.in-Ok.n (omega (arith, c.if-n-eq0.false)) (omega (arith, counted, c.loop-taken-test.true))
           (omega (arith, c.take.auto.buf, c.loop-taken.invariant.room)) c.in-Ok.ensures.takes c.forward.ensures.are_bytes,
       inr refl,
     )
@@ -69,7 +69,7 @@ loop-taken-preserved g c =
         come.0 ++ take c.in-Ok.n c.take.new.buf,
         omega (arith, counted, both, some, within),
         c.in-Ok-forward.ensures.come come.0 come.2,
-        took_more _ _ _ _ c.take.new.buf come.3 c.in-Ok.n (omega (arith, counted, c.loop-taken-test.true))
+        took_more _ _ _ _ c.take.new.buf come.3 c.in-Ok.n (omega (arith, c.if-n-eq0.false)) (omega (arith, counted, c.loop-taken-test.true))
             (omega (arith, c.take.auto.buf, c.loop-taken.invariant.room)) c.in-Ok.ensures.takes c.in-Ok-forward.ensures.are_bytes,
       );
       frame = search rules;

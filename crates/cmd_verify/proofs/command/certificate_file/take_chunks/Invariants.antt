@@ -13,7 +13,7 @@ invariant-loop-taken g l = record {
       × Gathers (change (as_source (g.O.Opener.state l.initial.files)) (as_source (g.O.Opener.state l.files))) (taken bytes unasked);
   frame : g.O.Opener.state l.files ≡ record (g.O.Opener.state l.initial.files) {
     left = (g.O.Opener.state l.files).left;
-    read_faults = (g.O.Opener.state l.files).read_faults;
+    calls = (g.O.Opener.state l.files).calls;
   };
 }
 

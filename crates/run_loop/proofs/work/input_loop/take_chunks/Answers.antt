@@ -50,7 +50,7 @@ pub returns-in_err-feed_chunk : goal.returns-in_err-feed_chunk
 returns-in_err-feed_chunk g c =
     let s = c.loop-taken.invariant.so_far in
     run_aborts g.W.Work.commands (g.W.Work.act c.args.work.now) c.requires.reads _ _ _ _ _ _ s (g.S.Source.state c.take.new.self) c.take.new.buf (omega (arith, c.loop-taken-test.true))
-    (omega (arith, c.take.auto.buf, c.loop-taken.invariant.room)) c.in-Ok.n c.in-Ok.ensures.within c.in-Ok.ensures c.in_err-feed_chunk.ensures.are_bytes (g.K.Sink.state c.feed_chunk.new.out)
+    (omega (arith, c.take.auto.buf, c.loop-taken.invariant.room)) c.in-Ok.n (omega (arith, c.if-n-eq0.false)) c.in-Ok.ensures.within c.in-Ok.ensures c.in_err-feed_chunk.ensures.are_bytes (g.K.Sink.state c.feed_chunk.new.out)
     (subst (λ a. ItemsStay g.W.Work.commands a) c.loop-taken.invariant.kept c.laws.ensures.stay)
     (g.W.Work.has c.feed_chunk.new.work) c.in_err-feed_chunk.field-0.0 c.from_residual.result c.from_residual.ensures.1
     (subst (λ a. FeedsAll g.W.Work.commands a {U = Unit {0}} (g.W.Work.has c.loop-taken.work) (g.W.Work.has c.feed_chunk.new.work) (take c.in-Ok.n c.take.new.buf)
@@ -62,7 +62,7 @@ loop-taken-preserved g c =
       room = c.take.auto.buf ∙ c.loop-taken.invariant.room;
       kept = c.in_ok-feed_chunk.ensures.kept ∙ c.loop-taken.invariant.kept;
       so_far = run_more g.W.Work.commands (g.W.Work.act c.args.work.now) c.requires.reads _ _ _ _ _ _ s (g.S.Source.state c.take.new.self) c.take.new.buf (omega (arith, c.loop-taken-test.true))
-          (omega (arith, c.take.auto.buf, c.loop-taken.invariant.room)) c.in-Ok.n c.in-Ok.ensures.within c.in-Ok.ensures c.in_ok-feed_chunk.ensures.are_bytes (g.K.Sink.state c.feed_chunk.new.out)
+          (omega (arith, c.take.auto.buf, c.loop-taken.invariant.room)) c.in-Ok.n (omega (arith, c.if-n-eq0.false)) c.in-Ok.ensures.within c.in-Ok.ensures c.in_ok-feed_chunk.ensures.are_bytes (g.K.Sink.state c.feed_chunk.new.out)
           (g.W.Work.has c.feed_chunk.new.work)
           (subst (λ a. FeedsAll g.W.Work.commands a {U = Unit {0}} (g.W.Work.has c.loop-taken.work) (g.W.Work.has c.feed_chunk.new.work) (take c.in-Ok.n c.take.new.buf)
           (change (g.K.Sink.state c.loop-taken.out) (g.K.Sink.state c.feed_chunk.new.out)) (Ok tt)) c.loop-taken.invariant.kept c.in_ok-feed_chunk.ensures.feeds);

@@ -6,6 +6,8 @@ returns g c =
     let files = c.files_in_turns.ensures in
     record {
       account = c.promised.ensures;
+      headline = then.headline;
+      status = then.status;
       exit = then.exit;
       end = then.end;
       alone = then.alone;

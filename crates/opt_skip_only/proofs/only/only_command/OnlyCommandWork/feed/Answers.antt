@@ -42,7 +42,7 @@ returns-in-Ok-clause-feeds g c = λ reads.
     let n = c.count.ensures bytes known there in
     let before = c.if-number-count.false in
     omega (arith, n, before))
-    (Ok c.in-Ok.taken) (c.in-Ok.ensures.feeds reads))
+    (Ok c.in-Ok.taken) (_, c.in-Ok.ensures.feeds reads))
 
 pub returns-in-Err-Exit-clause-feeds : goal.returns-in-Err-Exit-clause-feeds
 returns-in-Err-Exit-clause-feeds g c = λ reads.
@@ -59,7 +59,7 @@ returns-in-Err-Exit-clause-feeds g c = λ reads.
     let n = c.count.ensures bytes known there in
     let before = c.if-number-count.false in
     omega (arith, n, before))
-    (Err (aborts.Exit c.in-Err-Exit.exit)) (rw c.in-Err-Exit.field-0-is at fed))
+    (Err (aborts.Exit c.in-Err-Exit.exit)) (_, rw c.in-Err-Exit.field-0-is at fed))
 
 pub returns-in-Err-WriteFault-clause-feeds : goal.returns-in-Err-WriteFault-clause-feeds
 returns-in-Err-WriteFault-clause-feeds g c = λ reads.
@@ -77,5 +77,5 @@ returns-in-Err-WriteFault-clause-feeds g c = λ reads.
     let before = c.if-number-count.false in
     omega (arith, n, before))
     (Err (aborts.Exit out_of_memory))
-    (feeds_faulted g.W.Work.commands act (g.W.Work.has w.work) (g.W.Work.has c.feed-2.new.self)
+    (feeds_faulted g.W.Work.commands act (g.W.Work.has w.work) _ (g.W.Work.has c.feed-2.new.self)
     c.args.chunk.now (rw c.in-Err-WriteFault.field-0-is at fed)))

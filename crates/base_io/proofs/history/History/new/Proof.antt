@@ -1,4 +1,4 @@
--- `nothing` creates a value of size zero whose model is the empty list.
+-- `new` creates a value of size zero whose model is the empty list.
 use mathlib.Core.Path.{refl}
 use mathlib.Core.List.{[], ◌∷◌}
 use seplogic.Ra.Ura.{Ura}
@@ -21,18 +21,18 @@ use denote.Triple.Entry.{on_entry}
 use denote.Triple.Spec.{Meets, triple_of}
 use denote.Triple.Table.{entered}
 use denote.Triple.Walked.{says, ends_at, walked, walk_Meets}
-use Rattle.cmd_gen.specs.declared.generator.received_bytes.ReceivedBytes.{ReceivedBytes}
-use Rattle.cmd_gen.specs.contracts.generator.received_bytes.ReceivedBytes as T
-use Rattle.cmd_gen.specs.contracts.generator.received_bytes.ReceivedBytes.nothing.Key.{name as #it}
-use Rattle.cmd_gen.specs.contracts.generator.received_bytes.ReceivedBytes.nothing as it
-use Rattle.cmd_gen.proofs.generator.received_bytes.ReceivedBytes.nothing.Statement as stated
-use Rattle.cmd_gen.proofs.generator.received_bytes.ReceivedBytes.nothing.Code as code
+use Rattle.base_io.specs.declared.history.History.{History}
+use Rattle.base_io.specs.contracts.history.History as T
+use Rattle.base_io.specs.contracts.history.History.new.Key.{name as #it}
+use Rattle.base_io.specs.contracts.history.History.new as it
+use Rattle.base_io.proofs.history.History.new.Statement as stated
+use Rattle.base_io.proofs.history.History.new.Code as code
 
 abbrev v : Val
 v = vstruct (vcons (vstruct vnil) vnil)
 
-abbrev r : ReceivedBytes
-r = record { marker = record {}; bytes = [] }
+abbrev r : History
+r = record { marker = record {}; calls = [] }
 
 meets : {M : Type 1} {𝓤 : Ura M} (𝓛 : Logic 𝓤) → (at_mem : Memory → SProp 𝓤) (run : Routine → Fun 𝓤) (𝓣 : Tables 𝓤 𝓛.H)
     → Meets 𝓛 it.signature (WpFn 𝓤 𝓛.H 𝓣.C 𝓣.Λ code.function) (it.spec 𝓛 at_mem run)
@@ -47,9 +47,9 @@ meets {𝓤 = 𝓤} 𝓛 at_mem run 𝓣 =
     suffices ! _ (ends_at 𝓛 it.ended tt (it.clauses 𝓛 at_mem run) ((κs, qs, bounds, a, tt), g) v r tt tt) $ says ! refl $
     nothing ! $ join ! $ nothing ! $ done !)))
 
-pub nothing_spec : {M : Type 1} → stated.statement M
+pub new_spec : {M : Type 1} → stated.statement M
 unfolding tables_of
-nothing_spec 𝓤 𝓛 𝓜 𝓡 wired =
+new_spec 𝓤 𝓛 𝓜 𝓡 wired =
     entered 𝓤 𝓛.H (triple_of 𝓛 it.signature (it.spec 𝓛 𝓜.mem 𝓡.returns))
     (tables 𝓤 𝓛.H 𝓜 𝓡 𝓡.env).C (tables 𝓤 𝓛.H 𝓜 𝓡 𝓡.env).Λ #it code.function (code.unfolded 𝓤 𝓛.H 𝓜 𝓡 wired)
     (meets 𝓛 𝓜.mem 𝓡.returns (tables_of 𝓤 𝓛.H 𝓜 (tables 𝓤 𝓛.H 𝓜 𝓡 𝓡.env)))
