@@ -1,0 +1,13 @@
+pub mod SomeOutcomeLemmas
+pub mod TotalAgreeLemmas
+pub mod TotalSumLemmas
+pub mod SumOutcomeLemmas
+pub mod TotalBesideLemmas
+pub mod TotalSkipLemmas
+pub mod TotalOnlyLemmas
+pub mod TotalFindLemmas
+pub mod TotalValueLemmas
+pub mod LeastRuleLemmas
+pub mod FewTypesLemmas
+pub mod ReadTextLemmas
+pub mod AllOutcomeLemmas
