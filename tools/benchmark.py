@@ -21,6 +21,9 @@ import struct
 import subprocess
 import sys
 
+sys.dont_write_bytecode = True
+from declared_types import DECLARED, headers, many_lists
+
 RUNS = int(os.environ.get("RUNS", "7"))
 LIMIT = int(os.environ.get("LIMIT", "20"))
 if len(sys.argv) < 2:
@@ -340,19 +343,17 @@ def growing():
         line(f"list_{count}", words_of(path)[0], *times, *map(memory, done))
 
 
-def at_many_types(types):
-    """Declarations of so many types of one representation, and of a record with a list of each."""
-    names = range(types)
-    path = inside(f"many_{types}.types")
+def declared_in(path, declared):
+    """The path of a file with declarations."""
     with open(path, "w", encoding="ascii") as out:
-        out.write("".join(f"type t{k} = A{k} of int\n" for k in names))
-        out.write("type record = {" + "; ".join(f"f{k} : t{k} list" for k in names) + "}\n")
+        out.writelines(f"{it}\n" for it in declared)
     return path
 
 
 def hostile():
     """Sharing, objects at many types, and depth."""
-    many, array = ours("record", declarations=at_many_types(1_000)), "int ref array"
+    declared, record = many_lists(1_000)
+    many, array = ours(record, declarations=declared_in(inside("many.types"), declared)), "int ref array"
     rows = [("`check` of 60 blocks, each twice in the one before", ours("doubling"), file_of("doubling", 60))]
     for count in (10, 100, 1_000):
         rows.append((f"`check` of one list of {count} blocks, at 1,000 types each", many, file_of("shared", count)))
@@ -481,12 +482,11 @@ def trees():
         line(f"{shape}_{count}", f"`{ty}`", *times, memory(judged), memory(theirs), said(judged))
 
 
-def headers(count, words, fields):
-    """The path of a file of so many headers, each of a value of so many words that begins with a block of so many fields, which
-    are the headers that follow: its other numbers are integers when they are read as fields."""
-    path, integers = inside(f"headers_{count}_{words}"), 0x40404040
+def headers_file(count, words, fields):
+    """The path of a file of so many headers, each of a value of so many words that begins with a block of so many fields."""
+    path = inside(f"headers_{count}_{words}")
     with open(path, "wb") as out:
-        out.write(struct.pack(">5IBI", 0x8495A6BE, integers, integers, integers, words, 8, fields << 10) * count)
+        out.write(headers(count, words, fields))
     return path
 
 
@@ -502,143 +502,23 @@ def places():
     scan, skip = ["./omarshal", "scan"], ["--skip", "16000000"]
     alone("Where values stand:", (
         ("`scan` of 10 MB of random bytes", scan, inside("random")),
-        ("of 5,000 headers, each read for 16,448 words", scan, headers(5_000, 0x4040, 400)),
-        ("of 10,000 such headers", scan, headers(10_000, 0x4040, 400)),
-        ("of 50 headers, each read for 4,210,752 words", scan, headers(50, 0x404040, 4_000_000)),
+        ("of 5,000 headers, each read for 16,448 words", scan, headers_file(5_000, 0x4040, 400)),
+        ("of 10,000 such headers", scan, headers_file(10_000, 0x4040, 400)),
+        ("of 50 headers, each read for 4,210,752 words", scan, headers_file(50, 0x404040, 4_000_000)),
         ("`check` of list_1000000 behind 16,000,000 bytes", [*ours("int list"), *skip], behind),
         ("`edit` of the same", [*ours("int list", "edit"), "/dev/null", *skip], behind),
     ))
-
-
-# Declarations of each size, and a type over them.
-
-
-def chain(size):
-    """Records that name each the one before."""
-    return ["type t0 = { f : int }", *(f"type t{k} = {{ f : t{k - 1} }}" for k in range(1, size))], f"t{size - 1}"
-
-
-def constructors(size):
-    """250 variants that have so many constructors together, each of the next variant or of an integer."""
-    types = 250
-    each = size // types
-
-    def variant(k):
-        inside = f"t{k + 1}" if k + 1 < types else "int"
-        return f"t{k} = " + " | ".join(f"C{k}_{c} of {inside if c == 0 else 'int'}" for c in range(each))
-
-    return [("and " if k else "type ") + variant(k) for k in range(types)], "t0"
-
-
-def bracket(size):
-    """One polymorphic variant, half of whose tags have an argument."""
-    return ["type t = [ " + " | ".join(f"`T{k}" + (" of int" if k % 2 else "") for k in range(size)) + " ]"], "t"
-
-
-def twice_over(size, body):
-    """Two families of so many types, in each of which one leads to the next."""
-    declared = []
-    for family in "tu":
-        names = [f"{family}{k}" for k in range(size)]
-        for k, name in enumerate(names):
-            declared.append(("and " if k else "type ") + f"{name} = " + body(family, k, names[(k + 1) % size]))
-    return declared, "t0 * u0"
-
-
-def variants(size):
-    """Two families of variants."""
-    return twice_over(size, lambda family, k, after: f"{family.upper()}{k} of {after} | {family.upper()}Stop{k}")
-
-
-def brackets(size):
-    """Two families of polymorphic variants, which are equal one by one."""
-    return twice_over(size, lambda family, k, after: f"[ `Next of {after} | `T{k} ]")
-
-
-def families(size):
-    """Two families of polymorphic variants with the same tags, all of which are equal."""
-    return twice_over(size, lambda family, k, after: f"[ `Next of {after} | `Stop ]")
-
-
-def pairs(size):
-    """Abbreviations of pairs of the one before."""
-    return ["type t0 = int", *(f"type t{k} = t{k - 1} * t{k - 1}" for k in range(1, size + 1))], f"t{size}"
-
-
-def applied(size):
-    """Abbreviations of the one before, applied twice; each is its argument."""
-    return ["type 'a t0 = 'a", *(f"type 'a t{k} = 'a t{k - 1} t{k - 1}" for k in range(1, size + 1))], f"int t{size}"
-
-
-def included(size):
-    """Polymorphic variants that include the one before twice."""
-    return ["type t0 = [ `A ]", *(f"type t{k} = [ t{k - 1} | t{k - 1} ]" for k in range(1, size + 1))], f"t{size}"
-
-
-def differing(size):
-    """Polymorphic variants that include the one before at two arguments, which differ."""
-    two = "[ ('a * int) t{0} | ('a * string) t{0} ]"
-    return ["type 'a t0 = [ `A ]", *(f"type 'a t{k} = {two.format(k - 1)}" for k in range(1, size + 1))], f"int t{size}"
-
-
-def extended(size):
-    """Polymorphic variants that have the tags of the one before and one more."""
-    return ["type t0 = [ `T0 ]", *(f"type t{k} = [ t{k - 1} | `T{k} ]" for k in range(1, size))], f"t{size - 1}"
-
-
-def all_extended(size):
-    """The same, and a record that reaches each."""
-    declared, _ = extended(size)
-    return [*declared, "type all = { " + "; ".join(f"f{k} : t{k}" for k in range(size)) + " }"], "all"
-
-
-def extended_with(size):
-    """The same, where the first one has a tag with a variable."""
-    included = (f"type 'a t{k} = [ 'a t{k - 1} | `T{k} ]" for k in range(1, size))
-    return ["type 'a t0 = [ `T0 of 'a ]", *included], f"int t{size - 1}"
-
-
-def kilobytes(size):
-    """So many kilobytes of records of some thirty fields."""
-    fields = "; ".join(f"field_number_{k} : {'(int * string) list' if k % 2 else 'float option'}" for k in range(27))
-    return [f"type record_{k:04} = {{ {fields} }}" for k in range(size)], f"record_{size - 1:04}"
-
-
-def declarations(size):
-    """So many declarations of one line, of which the type names one."""
-    return [f"type t{k} = A{k} of int * string | B{k}" for k in range(size)], f"t{size - 1}"
-
-
-TYPES = [
-    ("a chain of N records", chain, 30_000),
-    ("N constructors of 250 variants", constructors, 30_000),
-    ("one polymorphic variant of N tags", bracket, 5_000),
-    ("two groups of N variants", variants, 500),
-    ("two groups of N polymorphic variants, each with one tag of its own", brackets, 500),
-    ("two groups of N polymorphic variants, all equal", families, 500),
-    ("N pairs of the one before", pairs, 20),
-    ("N abbreviations of the one before, applied twice", applied, 20),
-    ("N polymorphic variants that include the one before twice", included, 20),
-    ("N that include the one before at two arguments", differing, 20),
-    ("N that include the one before and have one tag more", extended, 1_000),
-    ("the same, where TYPE reaches each", all_extended, 1_000),
-    ("the same, where the first tag has a variable", extended_with, 1_000),
-    ("N kilobytes of records", kilobytes, 500),
-    ("N declarations", declarations, 5_000),
-]
 
 
 def types():
     """Declarations and types alone: no value is read."""
     table("Declarations and types without a value:", "declarations", "N", "s", "s at 2 N", "growth", "MB at 2 N", "status")
     path = inside("declared.types")
-    for name, make, size in TYPES:
+    for name, make, size in DECLARED:
         done = []
         for count in (size, 2 * size):
             declared, ty = make(count)
-            with open(path, "w", encoding="ascii") as out:
-                out.writelines(f"{it}\n" for it in declared)
-            done += in_turn((ours(ty, declarations=path), os.devnull))
+            done += in_turn((ours(ty, declarations=declared_in(path, declared)), os.devnull))
         once, twice = done
         line(name, size, seconds(once), seconds(twice), ratio(twice, once), memory(twice), twice.status)
 
