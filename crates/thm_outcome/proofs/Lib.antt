@@ -7,6 +7,9 @@ pub mod TotalSkipLemmas
 pub mod TotalOnlyLemmas
 pub mod TotalFindLemmas
 pub mod TotalValueLemmas
+pub mod TotalScanLemmas
+pub mod MadeTreeLemmas
+pub mod TotalMadeLemmas
 pub mod LeastRuleLemmas
 pub mod FewTypesLemmas
 pub mod ReadTextLemmas

@@ -46,12 +46,12 @@ module _ {A : Type 0} (c : Commands A) (a : A) where
 
     -- If no item follows, then there is a final reply.
     no_first :
-        (before : List Item) (output : List Output) (bytes : List ℕ) → AllPrint c a [] before output
+        c.Reads a → (before : List Item) (output : List Output) (bytes : List ℕ) → AllPrint c a [] before output
         → AreBytes bytes → (Rest before bytes → ⊥)
         → ((item : Item) (more : List ℕ) → c.IsFirst a before bytes item more → ⊥) → ⊥
-    no_first before output bytes print are_bytes none no_item =
+    no_first reads before output bytes print are_bytes none no_item =
         let no_exit : (exit : Exit) → c.Exits a before bytes exit → ⊥ = λ exit at. none (exit_next before bytes exit at) in
-        total.ends_some before output print bytes are_bytes
+        total.ends_some reads before output print bytes are_bytes
         (record { no_exit = no_exit; no_item = no_item }) (λ last ends.
         none (record {
           items = [];
@@ -70,23 +70,23 @@ module _ {A : Type 0} (c : Commands A) (a : A) where
         }))
 
     rest_in :
-        (fuel : ℕ) (before : List Item) (output : List Output) (bytes : List ℕ)
+        c.Reads a → (fuel : ℕ) (before : List Item) (output : List Output) (bytes : List ℕ)
         → length bytes ≤ fuel → AllPrint c a [] before output → AreBytes bytes
         → (Rest before bytes → ⊥) → ⊥
-    rest_in zero before output bytes fits print are_bytes none =
-        no_first before output bytes print are_bytes none (λ item more is.
+    rest_in reads zero before output bytes fits print are_bytes none =
+        no_first reads before output bytes print are_bytes none (λ item more is.
         let f = prefix before bytes item more is in
         let all : length bytes ≡ length f.0 + length more = ap length f.1 ∙ length-append f.0 more in
         let some = f.2 in
         omega (arith, all, some, fits))
-    rest_in (suc fuel) before output bytes fits print are_bytes none =
-        no_first before output bytes print are_bytes none (λ item more is.
+    rest_in reads (suc fuel) before output bytes fits print are_bytes none =
+        no_first reads before output bytes print are_bytes none (λ item more is.
         let f = prefix before bytes item more is in
         let all : length bytes ≡ length f.0 + length more = ap length f.1 ∙ length-append f.0 more in
         let some = f.2 in
         total.outputs_some before output print bytes are_bytes item more is
         (λ exit at. none (exit_next before bytes exit at)) (λ one outputs.
-        rest_in fuel (before ++ item ∷ []) (output ++ one ∷ []) more (omega (arith, all, some, fits))
+        rest_in reads fuel (before ++ item ∷ []) (output ++ one ∷ []) more (omega (arith, all, some, fits))
         (print_then c a [] before item output one print outputs)
         (bytes_after f.0 more (subst AreBytes f.1 are_bytes)) (λ r.
         none (record {
@@ -106,7 +106,7 @@ module _ {A : Type 0} (c : Commands A) (a : A) where
         none (replies [] last) (inr (record { unread = no_read; none = refl; last = ends }))) where
           no_read : c.Reads a → ⊥
           no_read reads =
-              rest_in (length input) [] [] input (omega arith) tt are_bytes (λ r.
+              rest_in reads (length input) [] [] input (omega arith) tt are_bytes (λ r.
               none (replies r.output r.last) (inl (
                 reads,
                 record {

@@ -6,7 +6,7 @@ use Rattle.run_spec.specs.runs.Commands.{Item, Commands, IsLast, Answers, Outcom
 use Rattle.run_spec.specs.command_sum.CommandSum.{command_sum}
 use Rattle.run_spec.proofs.command_sum.CommandSumAgreeLemmas.{Agrees, outputs_first_too, goes_on_too}
 use Rattle.thm_outcome.specs.Total.{HaveAnOutcome}
-use Rattle.thm_outcome.proofs.TotalSumLemmas.{first_agrees}
+use Rattle.thm_outcome.proofs.TotalSumLemmas.{first_agrees, second_agrees}
 
 module _ {A B : Type 0} (c : Commands A) (d : Commands B) (a : A) (b : B) (same : Agrees c d a b) where
   last_of_whole : (items : List Item) (rest : List ℕ) (last : Reply) → IsLast c a items rest at_end last → IsLast d b items rest at_end last
@@ -46,6 +46,21 @@ module _ {A B : Type 0} (c : Commands A) (d : Commands B) where
         )
     by all (Ok a, (Err exit, usage, same), answers) = absurd (cc same)
     by all (Err exit, (Ok request, asks, finds), is) = none all (Err exit, (Ok request, asks, inl finds), is)
+    by all (Err exit, (Err other, usage, same), is) =
+        let one : exit ≡ other = cc same in
+        none all (Err exit, (Err other, usage, ap found_exit one), is)
+
+  pub second_outcomes : (Of : Request → Type 0) → HaveAnOutcome d Of → HaveAnOutcome (command_sum c d) Of
+  second_outcomes Of some arguments only files input are_bytes none = some arguments only files input are_bytes by where
+    by : (all : Replies) → Outcome d arguments files input all → ⊥
+    by all (Ok b, (Ok request, asks, finds), answers) =
+        none all (
+          Ok (inr b),
+          (Ok request, asks, finds),
+          answers_of_whole d (command_sum c d) b (inr b) (second_agrees c d b) input all answers,
+        )
+    by all (Ok b, (Err exit, usage, same), answers) = absurd (cc same)
+    by all (Err exit, (Ok request, asks, finds), is) = none all (Err exit, (Ok request, asks, inr finds), is)
     by all (Err exit, (Err other, usage, same), is) =
         let one : exit ≡ other = cc same in
         none all (Err exit, (Err other, usage, ap found_exit one), is)

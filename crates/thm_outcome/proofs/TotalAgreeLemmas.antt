@@ -21,8 +21,8 @@ module _ {A B : Type 0} (c : Commands A) (d : Commands B) (a : A) (b : B) (same 
         ((same.first items bytes item more).1 is)
         (λ exit at. no_exit exit ((same.exits items bytes exit).0 at))
         (λ s h. none s ((same.outputs items item s).0 h));
-    ends_some = λ items output print bytes are_bytes on none.
-        total.ends_some items output (print_back [] items output print) bytes are_bytes
+    ends_some = λ reads items output print bytes are_bytes on none.
+        total.ends_some (same.reads.1 reads) items output (print_back [] items output print) bytes are_bytes
         (goes_on_too d c b a (agrees_back c d a b same) items bytes on)
         (λ last h. none last ((same.ends items bytes last).0 h));
     alone_some = λ unread none.

@@ -12,7 +12,7 @@ use Rattle.thm_outcome.specs.TotalLanguage.{IsTotal, IsValueRequest, ReadsNoType
 -- ---- stages
 
 -- If each of two stages has a result, then the two stages in sequence have a result.
-then_some :
+pub then_some :
     {X Y : Type 0} (first : Result X Exit → Type 0) (next : X → Result Y Exit → Type 0)
     → NotNone first → ((x : X) → first (Ok x) → NotNone (next x)) → NotNone (Then first next)
 then_some {X} {Y} first next one rest none = one by where
@@ -20,7 +20,7 @@ then_some {X} {Y} first next one rest none = one by where
   by (Ok x) f = rest x f (λ r n. none r (Ok x, f, n))
   by (Err exit) f = none (Err exit) (Err exit, f, refl)
 
-refusal_some :
+pub refusal_some :
     {X R : Type 0} (Reads : Result X R → Type 0) (exit : R → Exit) → NotNone Reads
     → NotNone (OrRefusal Reads exit)
 refusal_some {X} {R} Reads exit one none = one by where

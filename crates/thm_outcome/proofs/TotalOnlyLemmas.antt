@@ -85,12 +85,12 @@ module _ {A : Type 0} (picked_by : Request → Option ℕ) (c : Commands A) wher
             | inl less ↦ none nothing_output (inl (less, s, h, refl))
             | inr past ↦ none s (inr (omega (arith, past, is.0), h))
           ]);
-      ends_some = λ items output print bytes are_bytes on none.
+      ends_some = λ reads items output print bytes are_bytes on none.
           elim (cases_lt k (length items)) [
             | inl past ↦ past_one items output print past bytes on.no_exit
             | inr few ↦
                 let known = print_known [] items output print in
-                total.ends_some items known.0 known.1 bytes are_bytes
+                total.ends_some reads items known.0 known.1 bytes are_bytes
                 (record { no_exit = λ exit at. on.no_exit exit (inl (few, at)); no_item = λ item more is. on.no_item item more (few, is) })
                 (λ reply h. none (missing (length items) reply) (few, reply, h, refl))
           ];

@@ -68,12 +68,12 @@ module _ {A : Type 0} (passed_by : Request → SkippedBytes) (c : Commands A) wh
     skip_total_at : AreTotalAt c a → AreTotalAt after (over, a)
     skip_total_at total = record {
       outputs_some = outputs;
-      ends_some = λ items output print bytes are_bytes on none.
+      ends_some = λ reads items output print bytes are_bytes on none.
           elim (cases_lt (length items) n) [
             | inl less ↦ none (exits (short_input (length items))) (inl (less, refl))
             | inr past ↦
                 let l = print_later n [] items output (omega arith) print past in
-                total.ends_some (drop n items) l.0 l.1 bytes are_bytes
+                total.ends_some reads (drop n items) l.0 l.1 bytes are_bytes
                 (record { no_exit = λ exit at. on.no_exit exit (past, at); no_item = λ item more is. on.no_item item more (inr (past, is)) })
                 (λ last h. none last (inr (past, h)))
           ];

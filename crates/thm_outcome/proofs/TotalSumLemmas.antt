@@ -21,7 +21,7 @@ module _ {A B : Type 0} (c : Commands A) (d : Commands B) where
     ends = λ items bytes last. (λ h. h, λ h. h);
   }
 
-  second_agrees : (b : B) → Agrees d sum b (inr b)
+  pub second_agrees : (b : B) → Agrees d sum b (inr b)
   second_agrees b = record {
     reads = (λ h. h, λ h. h);
     first = λ items bytes item more. (λ h. h, λ h. h);

@@ -258,7 +258,7 @@ module _ {D T E : Type 0} (language : Language D T E) where
     outputs_some = λ items output print bytes are_bytes item more is no_exit.
         let v = are_values work limit [] items output (few_none work) print in
         outputs_here work total limit v.trees output v.print v.few items v.are bytes item more is no_exit;
-    ends_some = λ items output print bytes are_bytes on.
+    ends_some = λ reads items output print bytes are_bytes on.
         let v = are_values work limit [] items output (few_none work) print in
         ends_here limit v.trees items v.are work v.few bytes are_bytes on;
     alone_some = λ unread none. unread tt;

@@ -21,8 +21,10 @@ module _ {A : Type 0} (c : Commands A) where
         → (item : Item) (more : List ℕ) → c.IsFirst a items bytes item more
         → ((exit : Exit) → c.Exits a items bytes exit → ⊥)
         → NotNone (c.Outputs a items item)
-    -- If the run continues at the end of the input, then there is a final reply.
-    pub ends_some : (items : List Item) (output : List Output) → AllPrint c a [] items output
+    -- If the task reads the input, and the run continues at the end of the input, then there is a
+    -- final reply.
+    pub ends_some : c.Reads a → (items : List Item) (output : List Output)
+        → AllPrint c a [] items output
         → (bytes : List ℕ) → AreBytes bytes → GoesOn c a items bytes
         → NotNone (c.Ends a items bytes)
     -- A task that reads no input has a final reply.

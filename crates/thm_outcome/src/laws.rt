@@ -2,6 +2,8 @@
 
 ghost use Rattle.std.specs.Prelude.{ℕ, ◌⊎◌};
 ghost use Rattle.cli_spec.specs.Outcome.{Request, task, dumps, compares};
+ghost use Rattle.cmd_gen.specs.spec.GenSpec.{gen_spec};
+ghost use Rattle.cmd_scan.specs.spec.Searching.{searching};
 ghost use Rattle.opt_skip_only.specs.only_spec.OnlyCommand.{only_command};
 ghost use Rattle.opt_skip_only.specs.only_spec.OnlyRequests.{picked_by};
 ghost use Rattle.opt_skip_only.specs.skip_spec.SkipRequests.{passed_by};
@@ -12,14 +14,20 @@ ghost use Rattle.run_spec.specs.runs.LawfulLanguage.{IsLawful};
 ghost use Rattle.run_spec.specs.value_commands.Tasks.{commands};
 ghost use Rattle.thm_outcome.specs.Total.{AreTotal, HasAnswer, HaveAnOutcome};
 ghost use Rattle.thm_outcome.specs.Total.{HaveExactlyOneOutcome};
-ghost use Rattle.thm_outcome.specs.TotalLanguage.{IsTotal, IsValueRequest, ReadsNoType};
+ghost use Rattle.thm_outcome.specs.TotalLanguage.{HasLines, IsTotal, IsValueRequest};
+ghost use Rattle.thm_outcome.specs.TotalLanguage.{ReadsNoType};
+ghost use Rattle.thm_outcome.specs.TotalMade.{ReadsEachType, IsMadeInRange, IsMadeRequest};
+ghost use Rattle.thm_outcome.specs.TotalScan.{IsSearch};
 
+use cmd_gen::spec::laws::{OnMade, gen_spec_is_lawful};
+use cmd_scan::spec::laws::{OnStretches, Searches, searching_is_lawful};
 use opt_skip_only::only_spec::laws::{
     OneByArguments, OnlyCommand, PicksOne, only_command_is_lawful,
 };
 use opt_skip_only::skip_spec::laws::{ByArguments, PassesOver, Skipping, skipping_is_lawful};
 use run_spec::runs::laws::{Act, lawful_commands};
 use run_spec::value_commands::laws::{OnValues, Prints, commands_are_lawful};
+use std::marker::PhantomData;
 
 /// A set of requests: the requests at which commands are total.
 pub trait RequestSet {
@@ -38,6 +46,20 @@ pub struct UntypedRequests;
 
 impl RequestSet for UntypedRequests {
     ghost of = { ReadsNoType };
+}
+
+/// The requests of `gen` with at most the maximum COUNT.
+pub struct MadeRequests;
+
+impl RequestSet for MadeRequests {
+    ghost of = { IsMadeInRange };
+}
+
+/// The requests of `scan`.
+pub struct SearchRequests<S>(PhantomData<S>);
+
+impl<S: Searches> RequestSet for SearchRequests<S> {
+    ghost of = { IsSearch S.limit_by };
 }
 
 /// States that an outcome exists for lawful commands at the requests at which the commands are
@@ -134,4 +156,43 @@ pub fn value_commands_have_one_outcome<L: Prints>()
         Skipping<ByArguments, OnlyCommand<OneByArguments, OnValues<L>>>,
         ValueRequests,
     >();
+}
+
+// ---- the command `scan`
+
+/// States that `scan` is total, and that each input has an answer.
+pub fn searching_is_total<S: Searches>()
+    ensures total { AreTotal (searching S.limit_by) (IsSearch S.limit_by) }
+    ensures answers { (limit : ℕ) → HasAnswer (searching S.limit_by) limit }
+{}
+
+/// States that `scan` has exactly one outcome.
+pub fn searching_has_one_outcome<S: Searches>()
+    ensures { HaveExactlyOneOutcome (searching S.limit_by) (IsSearch S.limit_by) }
+{
+    searching_is_lawful::<S>();
+    searching_is_total::<S>();
+    total_commands_have_one_outcome::<OnStretches<S>, SearchRequests<S>>();
+}
+
+// ---- the command `gen`
+
+/// States that `gen` is total over a language that reads each type and has a line for each value.
+pub fn gen_spec_is_total<L: Prints>()
+    requires types { ReadsEachType L.language }
+    requires lines { HasLines L.language }
+    ensures { AreTotal (gen_spec L.language) IsMadeInRange }
+{}
+
+/// States that `gen` has exactly one outcome over a lawful language that reads each type and has a
+/// line for each value.
+pub fn gen_spec_has_one_outcome<L: Prints>()
+    requires lawful { IsLawful L.language }
+    requires types { ReadsEachType L.language }
+    requires lines { HasLines L.language }
+    ensures { HaveExactlyOneOutcome (gen_spec L.language) IsMadeRequest }
+{
+    gen_spec_is_lawful::<L>();
+    gen_spec_is_total::<L>();
+    total_commands_have_one_outcome::<OnMade<L>, MadeRequests>();
 }

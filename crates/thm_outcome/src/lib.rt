@@ -19,21 +19,29 @@
 //!   and `--only` have exactly one outcome.
 //! - `dump_and_same_have_one_outcome`: the same over the language of declared types, without a
 //!   premise.
+//! - `searching_is_total`: `scan` is total at each request that is a search.
+//! - `searching_has_one_outcome` and `scan_has_one_outcome`: `scan` has exactly one outcome. No
+//!   premise is needed.
+//! - `gen_spec_is_total` and `gen_spec_has_one_outcome`: suppose a language reads or refuses each
+//!   text of a type, and each value has a line. Then `gen` is total. If the language is also
+//!   lawful, then `gen` has exactly one outcome.
+//! - `gen_has_one_outcome`: over the language of declared types, `gen` has exactly one outcome if
+//!   each value has a line (`HasLines`).
 //! - `declarations_are_read_or_refused`, `types_are_read_or_refused`, `scripts_are_read_or_refused`
 //!   and `paths_are_read_or_refused`: in the language of declared types, each text is read or
 //!   refused.
 //! - `declared_commands_have_one_outcome`: the commands on values with `--skip` and `--only` have
 //!   exactly one outcome if each value has a line (`HasLines`) and the bytes of an edit or a reason
 //!   (`HasBytes`).
-//! - `all_commands_have_one_outcome_of_dump_and_same` and
-//!   `all_commands_have_one_outcome_of_values`: the two laws on one outcome for the set of all
-//!   commands.
+//! - `all_commands_have_one_outcome_of_dump_and_same`,
+//!   `all_commands_have_one_outcome_of_values`, `all_commands_have_one_outcome_of_scan` and
+//!   `all_commands_have_one_outcome_of_gen`: the laws on one outcome for the set of all commands.
 //!
 //! Conditions: the files are given as a map, and the input is a list of bytes. Each existence is
 //! stated as a double negation (`NotNone`): it is not so that there is no outcome.
 //!
-//! Leaves out: `HasLines` and `HasBytes` of the language of declared types, and that the commands
-//! outside the commands on values are total (`build`, `verify`, `check --cert`, `scan` and `gen`).
+//! Leaves out: `HasLines` and `HasBytes` of the language of declared types, and that `build`,
+//! `verify` and `check --cert` are total.
 #![tactic(auto)]
 
 pub mod declared_laws;
