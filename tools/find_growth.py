@@ -73,7 +73,6 @@ KNOWN = [
     Known("parameters", "*", "time", "each variable is compared with all parameters: types_table/src/store/instance.rt"),
     Known("lines_for_large_value", "edit*", "time", "each line checks the whole value"),
     Known("copies_of_large_value", "edit*", "time memory", "each line copies a value as large as the script"),
-    Known("claims_that_grow", "scan*", "time memory", "each header is read as far as it claims, and claims the more the longer the input"),
 ]
 
 Ran = collections.namedtuple("Ran", "seconds peak status written message")
@@ -109,7 +108,8 @@ class Value:
         elif tag < 16 and size < 8:
             self.object(size, size, bytes([0x80 + tag + (size << 4)]))
         else:
-            self.object(size, size, struct.pack(">BI", 8, (size << 10) + tag))
+            header = (size << 10) + tag
+            self.object(size, size, struct.pack(">BI", 8, header) if size < 1 << 22 else struct.pack(">BQ", 19, header))
 
     def string(self, text):
         size = len(text)
@@ -406,14 +406,16 @@ class Generator:
         return self.cases[count]
 
     def run(self, count, way, program, room):
-        """The seconds, memory and bytes of one run. Those of a run without input are subtracted."""
+        """The seconds, memory and bytes of one run. The seconds of a run without input are subtracted.
+
+        The memory of a run is at least the memory of the process that starts the run, so small peaks are not seen."""
         case = self.case(count, room)
         words, given = call_of(case, way, program)
         ran = run(words, given, case.room)
         if ran.seconds < math.inf and ran.status not in self.statuses:
             raise Unexpected(f"{self.name}, {name_of(way)}, size {count}: status {ran.status}, {ran.message}")
         size = case.count + bytes_of(words, given) + ran.written
-        return max(0.001, ran.seconds - idle.seconds), max(0, ran.peak - idle.peak), size
+        return max(0.001, ran.seconds - idle.seconds), ran.peak, size
 
     def measured(self, count, way, program, room, first=()):
         """Measures a way at N, where there may be a first run, and at 2 N, and again if something grows too fast."""
